@@ -22,7 +22,7 @@ use Rattle.token_reader.specs.Reading.{plain_list, label, Fails}
 use Rattle.token_reader.specs.Answers.{RefusesWith, RefusesFault}
 use Rattle.c_expr_parser.specs.Answers.{NotRead, words_of}
 use Rattle.c_expr_parser.proofs.Windows.{map_drop, drop_long}
-use Rattle.acsl_parser.specs.Answers.{annotation_at, IsReadAt, RefusesAt}
+use Rattle.acsl_parser.specs.Answers.{clauses_of, contract_of, annotation_at, IsReadAt, RefusesAt}
 use Rattle.acsl_parser.proofs.ExactAnnotations.{annotations_good}
 
 abbrev Numbered : Type 0
@@ -104,10 +104,10 @@ module _ (ts : PlainTokens) (types : List ℕ) (at first : ℕ) (start : at ≤ 
   go_on : (x : Numbered) (rest : List PlainToken) → Found (annotations (words_of ts types) first) (drop at ts.list) x rest → length rest < length (drop at ts.list)
   go_on x rest f = rest_below (kind (words_of ts types)) (annotations (words_of ts types) first) (annot_open_kind ∷ []) (λ _. []) (exact (words_of ts types) first) (drop at ts.list) x f.front rest f.longest.parts f.reading
 
-  read_at : (clauses : List Annotation) (contract : Option FunctionContract) (next : ℕ) (rest : List PlainToken) (k : ℕ) → annotation_at ts types at first ≡ Ok (((clauses, contract), next), rest) → k + length rest ≡ length ts.list
-      → IsReadAt ts types at first clauses contract k
-  read_at clauses contract next rest k h l =
-      let x : Numbered = ((clauses, contract), next) in
+  read_at : (read : ReadAnnotation) (all : List Annotation) (contract : Option FunctionContract) (next : ℕ) (rest : List PlainToken) (k : ℕ) → annotation_at ts types at first ≡ Ok ((read, next), rest) → all ≡ clauses_of read
+      → contract ≡ contract_of read → k + length rest ≡ length ts.list → IsReadAt ts types at first all contract k
+  read_at read all contract next rest k h clauses is_contract l =
+      let x : Numbered = (read, next) in
       let same : rest ≡ drop k ts.list = behind_is x rest k h l in
       let q : annotation_at ts types at first ≡ Ok (x, drop k ts.list) = h ∙ ap (λ (r : List PlainToken). Ok (x, r)) same in
       let less = go_on x rest (found_at x rest h) in
@@ -115,6 +115,9 @@ module _ (ts : PlainTokens) (types : List ℕ) (at first : ℕ) (start : at ≤ 
       record {
         forth = omega (arith, less, long, l, start);
         within = omega (arith, l);
+        read = read;
+        clauses = clauses;
+        is_contract = is_contract;
         next = next;
         parsed = q;
         found = found_at x (drop k ts.list) q;
@@ -147,10 +150,10 @@ module _ (ts : PlainTokens) (types : List ℕ) (at first : ℕ) (ws : Vocabulary
   starts : at ≤ length ts.list
   starts = omega (arith, start, length-map list plain_token, ap length same_list)
 
-  pub annotation_read : (clauses : List Annotation) (contract : Option FunctionContract) (next : ℕ) (left : List Token) (k : ℕ) → Parsed ws first (plain_list rest) ≡ Ok (((clauses, contract), next), plain_list left) → k + length left ≡ length list
-      → IsReadAt ts types at first clauses contract k
-  annotation_read clauses contract next left k h l =
-      read_at ts types at first starts clauses contract next (plain_list left) k (sym same ∙ h) (omega (arith, l, length-map left plain_token, length-map list plain_token, ap length same_list))
+  pub annotation_read : (read : ReadAnnotation) (all : List Annotation) (contract : Option FunctionContract) (next : ℕ) (left : List Token) (k : ℕ) → Parsed ws first (plain_list rest) ≡ Ok ((read, next), plain_list left) → all ≡ clauses_of read
+      → contract ≡ contract_of read → k + length left ≡ length list → IsReadAt ts types at first all contract k
+  annotation_read read all contract next left k h clauses is_contract l =
+      read_at ts types at first starts read all contract next (plain_list left) k (sym same ∙ h) clauses is_contract (omega (arith, l, length-map left plain_token, length-map list plain_token, ap length same_list))
 
   pub annotation_refused : (r : ReadFault) (e : FrontFault) → Fails r (Parsed ws first (plain_list rest)) → RefusesFault ts r e → RefusesAt ts types at first e
   annotation_refused r e h g = fault_at ts types at first starts r e (subst (λ (x : Reading). Fails r x) same h) g

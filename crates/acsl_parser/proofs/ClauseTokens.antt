@@ -1,5 +1,6 @@
 -- Where clauses begin, their words have kinds of their own: what is read exactly as a form is so there too.
-use Rattle.std.proofs.Common.{◌≡◌, ℕ, Bool, true, false, cond, eqb, List, [], ◌∷◌, ◌++◌, Option, Some, None, refl}
+use Rattle.std.proofs.Common.{◌≡◌, ℕ, ◌+◌, ◌≤◌, Bool, true, false, cond, eqb, List, [], ◌∷◌, ◌++◌, Option, Some, None, refl, arith}
+use Rattle.std.proofs.lemmas.Bool.{eqb-true}
 use Rattle.grammar.specs.Syntax.{Syntax, among, one}
 use Rattle.grammar.specs.Exact.{IsExact, IsGood}
 use Rattle.grammar.proofs.Productions.{token, same, recast}
@@ -20,8 +21,9 @@ use Rattle.c_model.specs.Terminals.{placed}
 use Rattle.c_model.specs.ExpressionGrammar.{name_kind, type_name_kind, word_kind, token_kind, kind}
 use Rattle.c_model.specs.AnnotationGrammar.{integer_kind, formula_word_kind, formula_token_kind, formula_kind}
 use Rattle.c_model.specs.ClauseGrammar.{clause_word_of, clause_word, clause_word_kind, clause_token_kind, clause_kind, kind_in, cover_kind, kind_among, fixed_word}
-use Rattle.c_model.specs.ClauseGrammar.{assert_kind, requires_kind, assumes_kind, ensures_kind, behavior_kind, complete_kind, disjoint_kind, behaviors_kind}
+use Rattle.c_model.specs.ClauseGrammar.{assert_kind, requires_kind, assumes_kind, ensures_kind, behavior_kind, complete_kind, disjoint_kind, behaviors_kind, assigns_kind, loop_kind, invariant_kind, variant_kind}
 use Rattle.c_model.specs.ClauseGrammar.{first_in, first_cover}
+use Rattle.c_expr_parser.proofs.TakenTokens.{word_small}
 use Rattle.acsl_parser.proofs.FormulaTokens.{placed_among, token_is}
 
 -- a production of what stands in annotations is read exactly, with these sets
@@ -29,7 +31,8 @@ abbrev pub AreClauses : {A : Type 0} → Vocabulary → ℕ → Syntax PlainToke
 AreClauses ws n G null first more = IsGood (clause_kind ws) n G G null first (λ _. more)
 
 abbrev pub clause_kinds : List ℕ
-clause_kinds = assert_kind ∷ requires_kind ∷ assumes_kind ∷ ensures_kind ∷ behavior_kind ∷ complete_kind ∷ disjoint_kind ∷ behaviors_kind ∷ []
+clause_kinds = assert_kind ∷ requires_kind ∷ assumes_kind ∷ ensures_kind ∷ behavior_kind ∷ complete_kind ∷ disjoint_kind ∷ behaviors_kind ∷ assigns_kind ∷ loop_kind ∷ invariant_kind
+    ∷ variant_kind ∷ []
 
 -- what begins a clause, by the kinds of C's tokens
 abbrev pub first_clause : List ℕ
@@ -44,6 +47,10 @@ is_clause_kind clause.Behavior = refl
 is_clause_kind clause.Complete = refl
 is_clause_kind clause.Disjoint = refl
 is_clause_kind clause.Behaviors = refl
+is_clause_kind clause.Assigns = refl
+is_clause_kind clause.Loop = refl
+is_clause_kind clause.Invariant = refl
+is_clause_kind clause.Variant = refl
 
 -- a word of clauses is a name in C, or the name of a type
 named_in_c : (w : Word) (c : ClauseWord) → clause_word_of w ≡ Some c → among (word_kind w) first_clause ≡ true
@@ -58,12 +65,84 @@ kind_is_first group.Contract clause.Ensures k e = refl
 kind_is_first group.Behavior clause.Requires k e = refl
 kind_is_first group.Behavior clause.Assumes k e = refl
 kind_is_first group.Behavior clause.Ensures k e = refl
+kind_is_first group.Loop clause.Invariant k e = refl
+kind_is_first group.Loop clause.Variant k e = refl
 kind_is_first _ _ k e = absurd cc
 
 cover_is_first : (c : ClauseWord) (k : Kind) → cover_kind c ≡ Some k → among (clause_word_kind c) first_cover ≡ true
 cover_is_first clause.Complete k e = refl
 cover_is_first clause.Disjoint k e = refl
 cover_is_first _ k e = absurd cc
+
+-- ---- no other token has the kind of a word of clauses
+
+abbrev Differs : ℕ → List ℕ → Type 0
+Differs k [] = Unit {0}
+Differs k (x ∷ xs) = (k ≡ x → ⊥) × Differs k xs
+
+not_among : (k : ℕ) (xs : List ℕ) → Differs k xs → among k xs ≡ false
+not_among k [] d = refl
+not_among k (x ∷ xs) d = tested (eqb k x) refl (not_among k xs d.1)
+  where
+    tested : (b : Bool) → eqb k x ≡ b → among k xs ≡ false → cond b true (among k xs) ≡ false
+    tested true e rest = absurd (d.0 (eqb-true k x e))
+    tested false e rest = rest
+
+below_clauses : (k : ℕ) → k ≤ 42 → among k clause_kinds ≡ false
+below_clauses k h =
+    not_among k clause_kinds (
+      λ e. omega (arith, h, e),
+      (
+        λ e. omega (arith, h, e),
+        (
+          λ e. omega (arith, h, e),
+          (
+            λ e. omega (arith, h, e),
+            (
+              λ e. omega (arith, h, e),
+              (λ e. omega (arith, h, e), (λ e. omega (arith, h, e), (λ e. omega (arith, h, e), (λ e. omega (arith, h, e), (λ e. omega (arith, h, e), (λ e. omega (arith, h, e), (λ e. omega (arith, h, e), tt))))))),
+            ),
+          ),
+        ),
+      ),
+    )
+
+above_clauses : (k : ℕ) → 60 ≤ k → among k clause_kinds ≡ false
+above_clauses k h =
+    not_among k clause_kinds (
+      λ e. omega (arith, h, e),
+      (
+        λ e. omega (arith, h, e),
+        (
+          λ e. omega (arith, h, e),
+          (
+            λ e. omega (arith, h, e),
+            (
+              λ e. omega (arith, h, e),
+              (λ e. omega (arith, h, e), (λ e. omega (arith, h, e), (λ e. omega (arith, h, e), (λ e. omega (arith, h, e), (λ e. omega (arith, h, e), (λ e. omega (arith, h, e), (λ e. omega (arith, h, e), tt))))))),
+            ),
+          ),
+        ),
+      ),
+    )
+
+word_below : (w : Word) → formula_word_kind w ≤ 42
+word_below word.Integer = omega arith
+word_below (word.Keyword k) = word_small (word.Keyword k)
+word_below (word.TypeName t) = word_small (word.TypeName t)
+word_below (word.Clause c) = word_small (word.Clause c)
+word_below (word.Logic l) = word_small (word.Logic l)
+word_below word.Name = word_small word.Name
+
+no_clause_kind : (ws : Vocabulary) (t : PlainTokenKind) → among (formula_token_kind ws t) clause_kinds ≡ false
+no_clause_kind ws (tokens.Word n) = below_clauses (formula_word_kind (word_at ws n)) (word_below (word_at ws n))
+no_clause_kind ws (tokens.Number z c) = refl
+no_clause_kind ws (tokens.Letter z) = refl
+no_clause_kind ws (tokens.Chars s) = refl
+no_clause_kind ws (tokens.Mark m) = above_clauses (60 + m) (omega arith)
+no_clause_kind ws tokens.AnnotOpen = refl
+no_clause_kind ws tokens.AnnotClose = refl
+no_clause_kind ws (tokens.Head k n) = refl
 
 module _ (ws : Vocabulary) where
   -- ---- what is read exactly as a form is so where clauses begin
@@ -137,6 +216,17 @@ module _ (ws : Vocabulary) where
   c_kind (tokens.Word n) c is = named_in_c (word_at ws n) c is
   c_kind _ c is = absurd cc
 
+  -- what is begun by words of clauses is so by the kinds of C's tokens
+  words_in_c : (ks : List ℕ) → within ks clause_kinds ≡ true → (t : PlainTokenKind) → among (clause_token_kind ws t) ks ≡ true → among (token_kind ws t) first_clause ≡ true
+  words_in_c ks w t h = tested (clause_word ws t) refl h
+    where
+      tested : (o : Option ClauseWord) → clause_word ws t ≡ o → among (elim o [ Some c ↦ clause_word_kind c | None ↦ formula_token_kind ws t ]) ks ≡ true → among (token_kind ws t) first_clause ≡ true
+      tested (Some c) is e = c_kind t c is
+      tested None is e = let q = within_among ks clause_kinds (formula_token_kind ws t) w e in let p = no_clause_kind ws t in absurd cc
+
+  pub begun_in_c : {A : Type 0} {G : Syntax PlainToken A} {null : Bool} (first : List ℕ) → within first clause_kinds ≡ true → IsExact (clause_kind ws) G null first (λ _. []) → IsExact (kind ws) G null first_clause (λ _. [])
+  begun_in_c first w g = recast first_clause (λ _. []) (λ t h. words_in_c first w t.kind h) (λ x t h. absurd cc) g
+
   pub kind_clause : {n : ℕ} (g : ClauseGroup) → AreClauses ws n (one (placed (kind_among ws (kind_in g)))) false (first_in g) []
   kind_clause g =
       token _ (first_in g) (placed_among ws (clause_token_kind ws) (kind_among ws (kind_in g)) (first_in g)
@@ -154,7 +244,7 @@ module _ (ws : Vocabulary) where
 
   -- ---- the word of clauses with a kind
 
-  fixed_among : (K : PlainTokenKind → ℕ) (ks : List ℕ) (k : ℕ) → ((t : PlainTokenKind) (c : ClauseWord) → clause_word ws t ≡ Some c → eqb (clause_word_kind c) k ≡ true → among (K t) ks ≡ true) → (t : PlainToken) (p : Place)
+  pub fixed_among : (K : PlainTokenKind → ℕ) (ks : List ℕ) (k : ℕ) → ((t : PlainTokenKind) (c : ClauseWord) → clause_word ws t ≡ Some c → eqb (clause_word_kind c) k ≡ true → among (K t) ks ≡ true) → (t : PlainToken) (p : Place)
       → elim (clause_word ws t.kind) [ Some c ↦ cond (eqb (clause_word_kind c) k) (Some t.place) None | None ↦ None ] ≡ Some p → among (K t.kind) ks ≡ true
   fixed_among K ks k h t p e = tested (clause_word ws t.kind) refl e
     where

@@ -10,14 +10,16 @@ use Rattle.c_syntax.specs.Tokens as tokens
 use Rattle.c_syntax.specs.Tokens.{PlainTokenKind, PlainToken}
 use Rattle.c_syntax.specs.declared.logic.BlockFact.{BlockFact}
 use Rattle.c_syntax.specs.declared.logic.MemoryQuestion.{MemoryQuestion}
+use Rattle.c_syntax.specs.declared.logic.Quantifier.{Quantifier}
 use Rattle.c_model.specs.declared.vocabulary.LogicWord.TheVariants as logic
 use Rattle.c_model.specs.declared.vocabulary.Word.{Word}
 use Rattle.c_model.specs.declared.vocabulary.Word.TheVariants as word
 use Rattle.c_model.specs.Vocabulary.{Vocabulary, word_at}
 use Rattle.c_model.specs.Terminals.{placed, mark_entry}
-use Rattle.c_model.specs.ExpressionGrammar.{type_name_kind, fact_kind, question_kind, first_any_name, any_name_of, any_name, name_kind, number_kind, letter_kind, logic_kind, mark_kind, word_kind, token_kind, kind, number_of, letter_of}
+use Rattle.c_model.specs.ExpressionGrammar.{type_name_kind, fact_kind, question_kind, quantifier_kind, first_any_name, any_name_of, any_name, name_kind, number_kind, letter_kind, logic_kind, mark_kind, word_kind, token_kind, kind}
+use Rattle.c_model.specs.ExpressionGrammar.{number_of, letter_of}
 use Rattle.c_model.specs.ExpressionGrammar.{kinds_of, first_type, fixed}
-use Rattle.c_model.specs.AnnotationGrammar.{fact_word, fact_of, question_word, question_of, integer_kind, formula_word_kind, formula_token_kind, formula_kind, formula_name_of, truth_word, truth_of, integer_word}
+use Rattle.c_model.specs.AnnotationGrammar.{fact_word, fact_of, question_word, question_of, quantifier_word, quantifier_of, integer_kind, formula_word_kind, formula_token_kind, formula_kind, formula_name_of, truth_word, truth_of, integer_word}
 use Rattle.c_expr_parser.proofs.ExactTokens.{fixed_good, number_good, letter_good, marks_good}
 
 -- a production of annotations is read exactly, with these sets
@@ -180,6 +182,17 @@ module _ (ws : Vocabulary) where
 
   pub question_form : {n : ℕ} → AreForms ws n (one (placed (question_of ws))) (one (placed (question_of ws))) false (question_kind ∷ []) []
   question_form = placed_form (question_of ws) (question_kind ∷ []) question_among
+
+  quantifier_is_quantifier : (w : Word) (q : Quantifier) → quantifier_word w ≡ Some q → among (formula_word_kind w) (quantifier_kind ∷ []) ≡ true
+  quantifier_is_quantifier (word.Logic (logic.Quantifier r)) q e = refl
+  quantifier_is_quantifier _ q e = absurd cc
+
+  quantifier_among : (t : PlainTokenKind) (q : Quantifier) → quantifier_of ws t ≡ Some q → among (formula_token_kind ws t) (quantifier_kind ∷ []) ≡ true
+  quantifier_among (tokens.Word k) q e = quantifier_is_quantifier (word_at ws k) q e
+  quantifier_among _ q e = absurd cc
+
+  pub quantifier_form : {n : ℕ} → AreForms ws n (one (placed (quantifier_of ws))) (one (placed (quantifier_of ws))) false (quantifier_kind ∷ []) []
+  quantifier_form = placed_form (quantifier_of ws) (quantifier_kind ∷ []) quantifier_among
 
   -- the name of a member may be that of a type, and `integer`
   some_so : (b : Bool) (k m : ℕ) → cond b (Some k) None ≡ Some m → b ≡ true

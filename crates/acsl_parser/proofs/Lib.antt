@@ -7,3 +7,4 @@ pub mod Clauses
 pub mod Turns
 pub mod Zones
 pub mod AnnotationAnswers
+pub mod LoopVariants

@@ -12,15 +12,19 @@ use Rattle.c_model.specs.declared.formulas.FormulaOperator.{FormulaOperator}
 use Rattle.c_model.specs.declared.vocabulary.Keyword.TheVariants as keyword
 use Rattle.c_model.specs.Vocabulary.{Vocabulary}
 use Rattle.c_model.specs.Punctuators.{plus, question, left_paren, left_bracket, comma, dot, dots, implies}
-use Rattle.c_model.specs.ExpressionGrammar.{name_kind, number_kind, letter_kind, null_kind, fact_kind, question_kind, separated_kind, result_kind, old_kind, at_kind, keyword_kind, mark_kind, kinds_of, first_type, type_name, expression}
-use Rattle.c_model.specs.AnnotationGrammar.{integer_kind, formula_kind, first_behind, prefix_operators, sum_operators, relations_behind, Spanned, unended_kinds, unended, unended_only, as_it_is, whole, zone, named_form, literal_form, sized_form}
+use Rattle.c_model.specs.ExpressionGrammar.{kind, name_kind, number_kind, letter_kind, null_kind, fact_kind, question_kind, separated_kind, result_kind, old_kind, at_kind, quantifier_kind, type_name_kind, keyword_kind, mark_kind, kinds_of}
+use Rattle.c_model.specs.ExpressionGrammar.{first_type, type_name, expression, integer_words, integer_word, typedef_name, enum_tag, words_behind}
+use Rattle.c_model.specs.AnnotationGrammar.{integer_kind, formula_kind, first_behind, prefix_operators, sum_operators, relations_behind, Spanned, unended_kinds, unended, unended_only, endless, as_it_is, whole, zone, named_form}
+use Rattle.c_model.specs.AnnotationGrammar.{literal_form, sized_form}
 use Rattle.c_model.specs.AnnotationGrammar.{null_form, told_form, asked_form, next_zone, some_zones, separated_form, result_form, old_form, labelled_form, atom, worded, indexed, dotted, pointed, postfix_once, postfixes, worded_postfix, cast_behind}
 use Rattle.c_model.specs.AnnotationGrammar.{cast_to_type, cast_to_integer}
-use Rattle.c_model.specs.AnnotationGrammar.{closed_postfix, parenthesised, behind_parenthesis, prefixed, bare_prefix, prefix_of, prefix, joined_once, joined_more, joined, factor, product, added_rest, ranged, behind_first}
+use Rattle.c_model.specs.AnnotationGrammar.{closed_postfix, parenthesised, behind_parenthesis, prefixed, bare_prefix, prefix_of, prefix, joined_once, joined_more, joined, product, added_rest, ranged, behind_first}
 use Rattle.c_model.specs.AnnotationGrammar.{added_parenthesis, added, sum_once}
 use Rattle.c_model.specs.AnnotationGrammar.{sum_more, zone_sum, linked, links_of, links, chain_behind, chain_of, implied, implication_behind, implication_of, chosen_behind, choice_behind, sum, bit_or, disjunction, implication, form_of, forms}
 use Rattle.c_model.specs.declared.formulas.ClauseGroup.{ClauseGroup}
-use Rattle.c_model.specs.ClauseGrammar.{form_clause, behavior_name, next_name, some_names, behavior_names, cover_clause}
+use Rattle.c_model.specs.declared.formulas.ClauseGroup.TheVariants as group
+use Rattle.c_model.specs.AnnotationGrammar.{placed_name, next_name, some_names, binder_type, binders, quantified}
+use Rattle.c_model.specs.ClauseGrammar.{assigns_kind, clause_kind, form_clause, behavior_names, cover_clause, assigns, looped, loop_assigns, loop_clause, passed_kind}
 use Rattle.c_expr_parser.proofs.Unlimited.{closed_free, type_name_free, expression_free}
 
 module _ (ws : Vocabulary) where
@@ -54,6 +58,39 @@ module _ (ws : Vocabulary) where
   atom_free =
       late_choice (formula_kind ws) (name_kind ∷ []) named_free
       (late_choice (formula_kind ws) (null_kind ∷ []) null_free (late_choice (formula_kind ws) (result_kind ∷ []) result_free literal_free))
+
+  -- ---- names, and quantifiers
+
+  name_free : Unlimited (placed_name ws)
+  unfolding placed_name
+  name_free = late_then (late_one _) (λ x. late_gives _)
+
+  next_name_free : (names : List (Place × ℕ)) → Unlimited (next_name ws names)
+  unfolding next_name
+  next_name_free names = late_then (late_one _) (λ _. late_then name_free (λ x. late_gives _))
+
+  some_names_free : Unlimited (some_names ws)
+  unfolding some_names
+  some_names_free = late_then name_free (λ x. late_many (formula_kind ws) (λ _. mark_kind comma ∷ []) next_name_free _)
+
+  values_free : Unlimited (binder_type ws)
+  unfolding binder_type integer_words integer_word typedef_name enum_tag
+  values_free =
+      late_choice (formula_kind ws) (integer_kind ∷ []) (late_then (late_one _) (λ _. late_gives _))
+      (late_choice (formula_kind ws) (keyword_kind keyword.Enum ∷ []) (late_then (late_then (late_one _) (λ _. late_then (late_one _) (λ x. late_gives _))) (λ t. late_gives _))
+      (late_choice (formula_kind ws) (type_name_kind ∷ []) (late_then (late_then (late_one _) (λ t. late_gives _)) (λ t. late_gives _))
+      (late_then (late_then (late_then (late_one _) (λ y. late_gives _)) (λ x. late_then (late_many (kind ws) words_behind (λ y. late_then (late_one _) (λ z. late_gives _)) x) (λ y. late_gives _))) (λ t. late_gives _))))
+
+  binders_free : Unlimited (binders ws)
+  unfolding binders
+  binders_free = late_then values_free (λ t. late_then some_names_free (λ names. late_then (late_one _) (λ _. late_gives _)))
+
+  quantified_free : {L : Syntax PlainToken (Spanned Form)} → Unlimited L → Unlimited (quantified ws L)
+  unfolding quantified
+  quantified_free l = late_then (late_one _) (λ q. late_then binders_free (λ b. late_then l (λ x. late_gives _)))
+
+  endless_free : {G : Syntax PlainToken Form} → Unlimited G → Unlimited (endless G)
+  endless_free g = late_then g (λ x. late_gives _)
 
   module _ {E : Syntax PlainToken Form} (e : Unlimited E) where
     postfix_once_free : (x : Form) → Unlimited (postfix_once ws E x)
@@ -90,7 +127,7 @@ module _ (ws : Vocabulary) where
     unfolding worded_postfix
     worded_postfix_free = late_then worded_free (λ x. postfixes_free e x)
 
-  module _ {E P : Syntax PlainToken Form} (e : Unlimited E) (p : Unlimited P) where
+  module _ {E : Syntax PlainToken Form} {P : Syntax PlainToken (Spanned Form)} (e : Unlimited E) (p : Unlimited P) where
     cast_free : (at : Place) (t : CastType) → Unlimited (cast_behind ws P at t)
     unfolding cast_behind
     cast_free at t = late_then (late_one _) (λ _. late_then p (λ x. late_gives _))
@@ -106,17 +143,18 @@ module _ (ws : Vocabulary) where
     behind_free : (at : Place) → Unlimited (behind_parenthesis ws E P at)
     unfolding behind_parenthesis parenthesised
     behind_free at =
-        late_choice (formula_kind ws) first_type (to_type_free at) (late_choice (formula_kind ws) (integer_kind ∷ []) (to_integer_free at) (late_then e (λ x. closed_postfix_free e x)))
+        late_choice (formula_kind ws) first_type (to_type_free at) (late_choice (formula_kind ws) (integer_kind ∷ []) (to_integer_free at) (late_then e (λ x. endless_free (closed_postfix_free e x))))
 
-    bare_free : {Z : Syntax PlainToken FormZone} → Unlimited Z → Unlimited (bare_prefix ws E Z P)
+    bare_free : {Z : Syntax PlainToken FormZone} {L : Syntax PlainToken (Spanned Form)} → Unlimited Z → Unlimited L → Unlimited (bare_prefix ws E Z L P)
     unfolding bare_prefix prefixed
-    bare_free z =
+    bare_free z l =
         late_choice (formula_kind ws) (kinds_of prefix_operators) (late_then (late_one _) (λ o. late_then p (λ x. late_gives _)))
-        (late_choice (formula_kind ws) (keyword_kind keyword.Sizeof ∷ []) sized_free (worded_postfix_free e z))
+        (late_choice (formula_kind ws) (keyword_kind keyword.Sizeof ∷ []) (endless_free sized_free)
+        (late_choice (formula_kind ws) (quantifier_kind ∷ []) (quantified_free l) (endless_free (worded_postfix_free e z))))
 
-    prefix_of_free : {Z : Syntax PlainToken FormZone} → Unlimited Z → Unlimited (prefix_of ws E Z P)
+    prefix_of_free : {Z : Syntax PlainToken FormZone} {L : Syntax PlainToken (Spanned Form)} → Unlimited Z → Unlimited L → Unlimited (prefix_of ws E Z L P)
     unfolding prefix_of
-    prefix_of_free z = late_choice (formula_kind ws) (mark_kind left_paren ∷ []) (late_then (late_one _) (λ at. behind_free at)) (bare_free z)
+    prefix_of_free z l = late_choice (formula_kind ws) (mark_kind left_paren ∷ []) (late_then (late_one _) (λ at. behind_free at)) (bare_free z l)
 
   -- a turn behind a form, and none behind a range
   turn_free : {step : Form → Syntax PlainToken (Spanned Form)} → ((x : Form) → Unlimited (step x)) → (x : Spanned Form) → Unlimited (unended_only step x)
@@ -164,54 +202,50 @@ module _ (ws : Vocabulary) where
   unfolding implication_of
   implication_of_free d i = late_then d (λ x. unended_free (implication_behind_free i) as_it_is x)
 
-  module _ {E : Syntax PlainToken Form} {Z : Syntax PlainToken FormZone} (e : Unlimited E) (z : Unlimited Z) where
-    prefix_free : Unlimited (prefix ws E Z)
+  module _ {E : Syntax PlainToken Form} {Z : Syntax PlainToken FormZone} {L : Syntax PlainToken (Spanned Form)} (e : Unlimited E) (z : Unlimited Z) (l : Unlimited L) where
+    prefix_free : Unlimited (prefix ws E Z L)
     unfolding prefix
-    prefix_free = late_knot {S = Unit {0}} (λ P p u. prefix_of_free e (p u) z) tt
+    prefix_free = late_knot {S = Unit {0}} (λ P p u. prefix_of_free e (p u) z l) tt
 
-    factor_free : Unlimited (factor ws E Z)
-    unfolding factor
-    factor_free = late_then prefix_free (λ x. late_gives _)
+    product_free : Unlimited (product ws E Z L)
+    product_free = joined_free _ prefix_free
 
-    product_free : Unlimited (product ws E Z)
-    product_free = joined_free _ factor_free
-
-    rest_free : (left : Form) (at : Place) (x : Form) → Unlimited (added_rest ws E Z left at x)
+    rest_free : (left : Form) (at : Place) (x : Spanned Form) → Unlimited (added_rest ws E Z L left at x)
     unfolding added_rest
-    rest_free left at x = late_then (more_free _ factor_free _) (λ y. late_gives _)
+    rest_free left at x = late_then (more_free _ prefix_free _) (λ y. late_gives _)
 
-    behind_first_free : (left : Form) (at : Place) (x : Form) → Unlimited (behind_first ws E Z left at x)
+    behind_first_free : (left : Form) (at : Place) (x : Form) → Unlimited (behind_first ws E Z L left at x)
     unfolding behind_first ranged
     behind_first_free left at x =
-        late_choice (formula_kind ws) (mark_kind dots ∷ []) (late_then (late_one _) (λ _. late_then e (λ hi. closed_free ws _))) (late_then (closed_postfix_free e x) (λ y. rest_free left at y))
+        late_choice (formula_kind ws) (mark_kind dots ∷ []) (late_then (late_one _) (λ _. late_then e (λ hi. closed_free ws _))) (late_then (closed_postfix_free e x) (λ y. rest_free left at (y, None)))
 
-    added_free : (left : Form) (at : Place) → Unlimited (added ws E Z left at)
+    added_free : (left : Form) (at : Place) → Unlimited (added ws E Z L left at)
     unfolding added added_parenthesis
     added_free left at =
         late_choice (formula_kind ws) (mark_kind left_paren ∷ []) (late_then (late_one _) (λ paren.
         late_choice (formula_kind ws) first_type (late_then (to_type_free e prefix_free paren) (λ x. rest_free left at x))
         (late_choice (formula_kind ws) (integer_kind ∷ []) (late_then (to_integer_free e prefix_free paren) (λ x. rest_free left at x)) (late_then e (λ x. behind_first_free left at x)))))
-        (late_then (bare_free e prefix_free z) (λ x. rest_free left at x))
+        (late_then (bare_free e prefix_free z l) (λ x. rest_free left at x))
 
-    sum_once_free : (left : Form) → Unlimited (sum_once ws E Z left)
+    sum_once_free : (left : Form) → Unlimited (sum_once ws E Z L left)
     unfolding sum_once
     sum_once_free left = late_choice (formula_kind ws) (mark_kind plus ∷ []) (late_then (late_one _) (λ at. added_free left at)) (once_free _ product_free left)
 
-    zone_sum_free : Unlimited (zone_sum ws E Z)
+    zone_sum_free : Unlimited (zone_sum ws E Z L)
     unfolding zone_sum sum_more
     zone_sum_free = late_then product_free (λ x. late_many (formula_kind ws) (unended_kinds (kinds_of sum_operators)) (turn_free sum_once_free) x)
 
-    sum_free : (m : FormulaMode) → Unlimited (sum ws E Z m)
+    sum_free : (m : FormulaMode) → Unlimited (sum ws E Z L m)
     sum_free Alone = joined_free _ product_free
     sum_free Zone = zone_sum_free
 
-    bit_or_free : (m : FormulaMode) → Unlimited (bit_or ws E Z m)
+    bit_or_free : (m : FormulaMode) → Unlimited (bit_or ws E Z L m)
     bit_or_free m = joined_free _ (joined_free _ (joined_free _ (chain_of_free (joined_free _ (sum_free m)))))
 
-    disjunction_free : (m : FormulaMode) → Unlimited (disjunction ws E Z m)
+    disjunction_free : (m : FormulaMode) → Unlimited (disjunction ws E Z L m)
     disjunction_free m = joined_free _ (joined_free _ (joined_free _ (bit_or_free m)))
 
-    implication_free : (m : FormulaMode) → Unlimited (implication ws E Z m)
+    implication_free : (m : FormulaMode) → Unlimited (implication ws E Z L m)
     unfolding implication
     implication_free m = late_knot {S = Unit {0}} (λ I i u. implication_of_free (disjunction_free m) (i u)) tt
 
@@ -231,7 +265,7 @@ module _ (ws : Vocabulary) where
 
     form_of_free : (m : FormulaMode) → Unlimited (form_of ws F m)
     unfolding form_of
-    form_of_free m = late_then (joined_free _ (implication_free whole_free zone_free m)) (λ c. unended_free (choice_free m) as_it_is c)
+    form_of_free m = late_then (joined_free _ (implication_free whole_free zone_free (f m) m)) (λ c. unended_free (choice_free m) as_it_is c)
 
   forms_free : (m : FormulaMode) → Unlimited (forms ws m)
   unfolding forms
@@ -241,20 +275,22 @@ module _ (ws : Vocabulary) where
   unfolding form_clause
   clause_free g n = late_then (late_one _) (λ k. late_then (whole_free forms_free) (λ f. late_then (late_one _) (λ _. late_gives _)))
 
+  -- ---- what is passed over, and clauses of loops
+
+  pub assigns_free : Unlimited (assigns ws)
+  unfolding assigns
+  assigns_free = late_then (late_one _) (λ at. late_then (late_many passed_kind (λ _. 1 ∷ []) (λ _. late_one _) (tt {0})) (λ _. late_then (late_one _) (λ _. late_gives _)))
+
+  pub loop_clause_free : (n : ℕ) → Unlimited (loop_clause ws n)
+  unfolding loop_clause looped loop_assigns
+  loop_clause_free n =
+      late_then (late_one _) (λ at. late_choice (clause_kind ws) (assigns_kind ∷ []) (late_then assigns_free (λ _. late_gives _)) (late_then (clause_free group.Loop n) (λ a. late_gives _)))
+
   -- ---- clauses that name behaviors
 
-  name_free : Unlimited (behavior_name ws)
-  unfolding behavior_name
-  name_free = late_then (late_one _) (λ x. late_gives _)
-
-  next_name_free : (names : List (Place × ℕ)) → Unlimited (next_name ws names)
-  unfolding next_name
-  next_name_free names = late_then (late_one _) (λ _. late_then name_free (λ x. late_gives _))
-
   names_free : Unlimited (behavior_names ws)
-  unfolding behavior_names some_names
-  names_free =
-      late_choice (formula_kind ws) (name_kind ∷ []) (late_then name_free (λ x. late_many (formula_kind ws) (λ _. mark_kind comma ∷ []) next_name_free _)) (late_gives _)
+  unfolding behavior_names
+  names_free = late_choice (formula_kind ws) (name_kind ∷ []) some_names_free (late_gives _)
 
   pub cover_free : (n : ℕ) → Unlimited (cover_clause ws n)
   unfolding cover_clause

@@ -1,24 +1,23 @@
-//! Annotations: asserts (ACSL 2.4.1), or the contract of a function (ACSL 2.3).
+//! Annotations: asserts (ACSL 2.4.1), clauses of a loop (ACSL 2.4.2), or the contract of a function (ACSL 2.3).
 
-ghost use Rattle.std.specs.Prelude.{length, map, option_map};
+ghost use Rattle.std.specs.Prelude.{map};
 ghost use Rattle.c_syntax.specs.Logic.{plain_annot};
-ghost use Rattle.c_syntax.specs.Programs.{plain_contract};
 ghost use Rattle.c_model.specs.ClauseGrammar.{asserts, clauses, annotations};
+ghost use Rattle.acsl_parser.specs.Reading.{plain_read};
 ghost use Rattle.token_reader.specs.Reading.{Gives, plain_list};
 
 use crate::clause::{ClausesRead, more_clauses, next_clause};
-use crate::clause_words::next_is_in;
+use crate::clause_words::{LOOP, next_is_in, next_is_word};
 use crate::contract::contract;
+use crate::loop_clauses::loop_clauses;
+use crate::readings::ReadAnnotation;
 use c_expr_parser::kinds::{ANNOT_CLOSE, ANNOT_OPEN};
 use c_expr_parser::terminals::{kept, skip};
 use c_model::formulas::ClauseGroup;
 use c_model::vocabulary::Word;
+use c_syntax::Token;
 use c_syntax::fault::ReadFault;
-use c_syntax::{Annot, Contract, Token};
 use std::alloc::Global;
-
-/// Asserts, or a contract and no assert.
-pub type ReadAnnotation = (Vec<Annot>, Option<Contract>);
 
 /// What was read, with the number of the next clause.
 pub type AnnotationRead<'a> = Result<(ReadAnnotation, u32, &'a [Token]), ReadFault>;
@@ -41,15 +40,17 @@ fn clauses<'a>(
     number: u32,
     tokens: &'a [Token],
 ) -> AnnotationRead<'a>
-    ensures { Gives (λ x. (((map plain_annot x.0.0.items, option_map plain_contract x.0.1), x.1), plain_list x.2.now)) result
-        ((clauses words.now number).parse (plain_list tokens.now)) }
+    ensures { Gives (λ x. ((plain_read x.0, x.1), plain_list x.2.now)) result ((clauses words.now number).parse (plain_list tokens.now)) }
 {
     if next_is_in(words, ClauseGroup::Asserts, tokens) {
         let (all, number, rest) = asserts(alloc, words, number, tokens)?;
-        Ok(((all, None), number, rest))
+        Ok((ReadAnnotation::Asserts(all), number, rest))
+    } else if next_is_word(words, LOOP, tokens) {
+        let (all, number, rest) = loop_clauses(alloc, words, number, tokens)?;
+        Ok((ReadAnnotation::Loop(all), number, rest))
     } else {
         let (read, number, rest) = contract(alloc, words, number, tokens)?;
-        Ok(((Vec::new(alloc), Some(read)), number, rest))
+        Ok((ReadAnnotation::Contract(read), number, rest))
     }
 }
 
@@ -61,8 +62,7 @@ pub fn annotations<'a>(
     number: u32,
     tokens: &'a [Token],
 ) -> AnnotationRead<'a>
-    ensures { Gives (λ x. (((map plain_annot x.0.0.items, option_map plain_contract x.0.1), x.1), plain_list x.2.now)) result
-        ((annotations words.now number).parse (plain_list tokens.now)) }
+    ensures { Gives (λ x. ((plain_read x.0, x.1), plain_list x.2.now)) result ((annotations words.now number).parse (plain_list tokens.now)) }
 {
     let (_, rest) = skip(words, ANNOT_OPEN, tokens)?;
     let (read, number, rest) = clauses(alloc, words, number, rest)?;

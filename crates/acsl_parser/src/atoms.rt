@@ -41,7 +41,7 @@ pub fn with_form<'a>(
     Ok((read_form(alloc, place, kind)?, tokens))
 }
 
-/// The same, with the range that ends it.
+/// The same, with what ends it.
 pub fn with_range<'a>(
     alloc: Global,
     place: Place,

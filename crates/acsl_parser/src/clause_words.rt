@@ -5,7 +5,7 @@ ghost use Rattle.grammar.specs.Syntax.{sees, one};
 ghost use Rattle.c_syntax.specs.Tokens.{plain_token, plain_token_kind};
 ghost use Rattle.c_model.specs.Terminals.{placed};
 ghost use Rattle.c_model.specs.ClauseGrammar.{clause_word_of, clause_word, clause_word_kind, clause_kind, kind_in, cover_kind, kind_among};
-ghost use Rattle.c_model.specs.ClauseGrammar.{first_in, first_cover, fixed_word};
+ghost use Rattle.c_model.specs.ClauseGrammar.{first_in, first_own, first_cover, fixed_word};
 ghost use Rattle.token_reader.specs.Reading.{Gives, TakesNoMemory, plain_list};
 
 use crate::terminals::formula_kind;
@@ -31,6 +31,14 @@ pub const COMPLETE: u32 = 55;
 pub const DISJOINT: u32 = 56;
 
 pub const BEHAVIORS: u32 = 57;
+
+pub const LOOP: u32 = 58;
+
+pub const ASSIGNS: u32 = 59;
+
+pub const INVARIANT: u32 = 43;
+
+pub const VARIANT: u32 = 44;
 
 /// A clause that says a form, by its first word.
 pub type KindRead<'a> = Result<(Kind, Place, &'a [Token]), ReadFault>;
@@ -65,6 +73,10 @@ fn clause_word_kind(word: ClauseWord) -> u32
         ClauseWord::Complete => COMPLETE,
         ClauseWord::Disjoint => DISJOINT,
         ClauseWord::Behaviors => BEHAVIORS,
+        ClauseWord::Assigns => ASSIGNS,
+        ClauseWord::Loop => LOOP,
+        ClauseWord::Invariant => INVARIANT,
+        ClauseWord::Variant => VARIANT,
     }
 }
 
@@ -100,8 +112,19 @@ pub fn next_is_in(words: &[Word], group: ClauseGroup, tokens: &[Token]) -> bool
                 ClauseGroup::Asserts => kind == ASSERT,
                 ClauseGroup::Contract => kind == REQUIRES || kind == ENSURES,
                 ClauseGroup::Behavior => kind == REQUIRES || kind == ASSUMES || kind == ENSURES,
+                ClauseGroup::Loop => kind == INVARIANT || kind == VARIANT,
             }
         }
+    }
+}
+
+/// Whether a clause of the group comes next, or one that is passed over.
+pub fn next_is_own(words: &[Word], group: ClauseGroup, tokens: &[Token]) -> bool
+    ensures { result ≡ sees (clause_kind words.now) (first_own group) (plain_list tokens.now) }
+{
+    match tokens {
+        [] => false,
+        [token, ..] => clause_kind(words, token) == ASSIGNS || next_is_in(words, group, tokens),
     }
 }
 
@@ -128,6 +151,8 @@ fn kind_in(group: ClauseGroup, word: ClauseWord) -> Option<Kind>
         (ClauseGroup::Behavior, ClauseWord::Requires) => Some(Kind::Requires),
         (ClauseGroup::Behavior, ClauseWord::Assumes) => Some(Kind::Assumes),
         (ClauseGroup::Behavior, ClauseWord::Ensures) => Some(Kind::Ensures),
+        (ClauseGroup::Loop, ClauseWord::Invariant) => Some(Kind::Invariant),
+        (ClauseGroup::Loop, ClauseWord::Variant) => Some(Kind::Variant),
         _ => None,
     }
 }

@@ -3,19 +3,19 @@
 ghost use Rattle.std.specs.Prelude.{◌≤◌, ◌<◌, length, map, IfOk};
 ghost use Rattle.c_syntax.specs.Logic.{plain_annot};
 ghost use Rattle.c_syntax.specs.Programs.{plain_behavior, plain_contract};
-ghost use Rattle.c_model.specs.ClauseGrammar.{behavior, next_behavior, more_behaviors, behavior_name, next_name, some_names, behavior_names};
-ghost use Rattle.c_model.specs.ClauseGrammar.{cover_clause, full_cover, next_cover, more_covers, behaviors_and_covers, own_first, behavior_first};
+ghost use Rattle.c_model.specs.ClauseGrammar.{behavior, next_behavior, more_behaviors, behavior_names};
+ghost use Rattle.c_model.specs.ClauseGrammar.{cover_clause, full_cover, next_cover, more_covers, behaviors_and_covers, placed_own, own_first, behavior_first};
 ghost use Rattle.c_model.specs.ClauseGrammar.{cover_first, contract};
-ghost use Rattle.acsl_parser.specs.Reading.{more_names};
 ghost use Rattle.token_reader.specs.Reading.{Gives, plain_list};
 
-use crate::clause::{full_clause, more_clauses};
+use crate::binders::{Names, some_names};
+use crate::clause::{full_assigns, full_clause, more_owns};
 use crate::clause_words::{
-    BEHAVIOR, BEHAVIORS, cover_word, fixed_word, next_is_cover, next_is_in, next_is_word,
+    ASSIGNS, BEHAVIOR, BEHAVIORS, cover_word, fixed_word, next_is_cover, next_is_own, next_is_word,
 };
 use crate::terminals::{formula_name, next_is};
 use c_expr_parser::full::{MOST, behind, passed, resumed, window};
-use c_expr_parser::kinds::{COLON, COMMA, NAME, SEMICOLON};
+use c_expr_parser::kinds::{COLON, NAME, SEMICOLON};
 use c_expr_parser::terminals::{kept, skip};
 use c_model::formulas::ClauseGroup;
 use c_model::vocabulary::Word;
@@ -23,9 +23,6 @@ use c_syntax::fault::ReadFault;
 use c_syntax::logic::{Annot, Body};
 use c_syntax::{Behavior, Contract, Place, Token};
 use std::alloc::Global;
-
-/// Names of behaviors, each at its place.
-pub type Names = Vec<(Place, u32)>;
 
 /// A contract that was read, or what is read of one, with the number of the next clause.
 pub type ContractRead<'a> = Result<(Contract, u32, &'a [Token]), ReadFault>;
@@ -44,7 +41,7 @@ fn behavior<'a>(
     let (name, place, rest) = formula_name(words, rest)?;
     let (_, rest) = skip(words, COLON, rest)?;
     let group = ClauseGroup::Behavior;
-    let (clauses, number, rest) = more_clauses(alloc, words, group, Vec::new(alloc), number, rest)?;
+    let (clauses, number, rest) = more_owns(alloc, words, group, Vec::new(alloc), number, rest)?;
     let read = Behavior {
         place,
         name,
@@ -97,57 +94,8 @@ fn more_behaviors<'a>(
     Ok((contract, number, rest))
 }
 
-/// The name of a behavior, at its place.
-#[tactic(auto, unfolding(c_model::specs::ClauseGrammar::behavior_name))]
-fn behavior_name<'a>(
-    words: &[Word],
-    tokens: &'a [Token],
-) -> Result<((Place, u32), &'a [Token]), ReadFault>
-    ensures read { Gives (λ x. (x.0, plain_list x.1.now)) result ((behavior_name words.now).parse (plain_list tokens.now)) }
-    ensures shorter { IfOk result (λ x. length x.1.now < length tokens.now) }
-{
-    let (name, place, rest) = formula_name(words, tokens)?;
-    Ok(((place, name), rest))
-}
-
-/// `"," NAME`, behind others.
-#[tactic(auto, unfolding(c_model::specs::ClauseGrammar::next_name))]
-fn next_name<'a>(
-    words: &[Word],
-    all: Names,
-    tokens: &'a [Token],
-) -> Result<(Names, &'a [Token]), ReadFault>
-    ensures read { Gives (λ x. (x.0.items, plain_list x.1.now)) result ((next_name words.now all.items).parse (plain_list tokens.now)) }
-    ensures shorter { IfOk result (λ x. length x.1.now < length tokens.now) }
-{
-    let (all, (_, rest)) = kept(all, skip(words, COMMA, tokens))?;
-    let (mut all, (name, rest)) = kept(all, behavior_name(words, rest))?;
-    all.push(name)?;
-    Ok((all, rest))
-}
-
-/// More names, each behind a comma.
-#[tactic(auto, using(crate::proofs::Turns::names_rules))]
-fn more_names<'a>(
-    words: &[Word],
-    all: Names,
-    tokens: &'a [Token],
-) -> Result<(Names, &'a [Token]), ReadFault>
-    ensures read { Gives (λ x. (x.0.items, plain_list x.1.now)) result ((more_names words.now all.items).parse (plain_list tokens.now)) }
-    ensures shorter { IfOk result (λ x. length x.1.now ≤ length tokens.now) }
-{
-    let mut all = all;
-    let mut rest = tokens;
-    'turn: while next_is(words, COMMA, rest) {
-        let (more, after) = next_name(words, all, rest)?;
-        all = more;
-        rest = after;
-    }
-    Ok((all, rest))
-}
-
 /// `[ NAME { "," NAME } ]`
-#[tactic(auto, unfolding(c_model::specs::ClauseGrammar::behavior_names, c_model::specs::ClauseGrammar::some_names, crate::specs::Reading::more_names))]
+#[tactic(auto, unfolding(c_model::specs::ClauseGrammar::behavior_names))]
 fn behavior_names<'a>(
     alloc: Global,
     words: &[Word],
@@ -157,8 +105,7 @@ fn behavior_names<'a>(
     ensures shorter { IfOk result (λ x. length x.1.now ≤ length tokens.now) }
 {
     if next_is(words, NAME, tokens) {
-        let (first, rest) = behavior_name(words, tokens)?;
-        more_names(words, vec![in alloc; first]?, rest)
+        some_names(alloc, words, tokens)
     } else {
         Ok((Vec::new(alloc), tokens))
     }
@@ -270,6 +217,28 @@ fn behaviors_and_covers<'a>(
     more_covers(alloc, words, contract, number, rest)
 }
 
+/// The first of its own clauses, with the place of its first word and the number of the next clause.
+#[tactic(auto, unfolding(c_model::specs::ClauseGrammar::placed_own))]
+fn placed_own<'a>(
+    alloc: Global,
+    words: &[Word],
+    number: u32,
+    tokens: &'a [Token],
+) -> Result<(Place, Vec<Annot>, u32, &'a [Token]), ReadFault>
+    ensures { Gives (λ x. ((x.0, (map plain_annot x.1.items, x.2)), plain_list x.3.now)) result ((placed_own words.now number).parse (plain_list tokens.now)) }
+{
+    if next_is_word(words, ASSIGNS, tokens) {
+        let (place, rest) = full_assigns(words, tokens)?;
+        return Ok((place, Vec::new(alloc), number, rest));
+    }
+    if number == u32::MAX {
+        return Err(ReadFault::Memory);
+    }
+    let (clause, rest) = full_clause(alloc, words, ClauseGroup::Contract, number, tokens)?;
+    let place = clause.place;
+    Ok((place, vec![in alloc; clause]?, number + 1, rest))
+}
+
 /// A contract that begins with a clause of its own.
 #[tactic(auto, unfolding(c_model::specs::ClauseGrammar::own_first))]
 fn own_first<'a>(
@@ -280,14 +249,9 @@ fn own_first<'a>(
 ) -> ContractRead<'a>
     ensures { Gives (λ x. ((plain_contract x.0, x.1), plain_list x.2.now)) result ((own_first words.now number).parse (plain_list tokens.now)) }
 {
-    if number == u32::MAX {
-        return Err(ReadFault::Memory);
-    }
+    let (place, all, number, rest) = placed_own(alloc, words, number, tokens)?;
     let group = ClauseGroup::Contract;
-    let (clause, rest) = full_clause(alloc, words, group, number, tokens)?;
-    let place = clause.place;
-    let all = vec![in alloc; clause]?;
-    let (clauses, number, rest) = more_clauses(alloc, words, group, all, number + 1, rest)?;
+    let (clauses, number, rest) = more_owns(alloc, words, group, all, number, rest)?;
     let contract = Contract {
         place,
         clauses,
@@ -350,7 +314,7 @@ pub fn contract<'a>(
 ) -> ContractRead<'a>
     ensures { Gives (λ x. ((plain_contract x.0, x.1), plain_list x.2.now)) result ((contract words.now number).parse (plain_list tokens.now)) }
 {
-    if next_is_in(words, ClauseGroup::Contract, tokens) {
+    if next_is_own(words, ClauseGroup::Contract, tokens) {
         own_first(alloc, words, number, tokens)
     } else if next_is_word(words, BEHAVIOR, tokens) {
         behavior_first(alloc, words, number, tokens)

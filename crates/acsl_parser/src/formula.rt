@@ -2,7 +2,7 @@
 
 ghost use Rattle.std.specs.Prelude.{◌≤◌, ◌<◌, length, option_map, IfOk};
 ghost use Rattle.c_syntax.specs.Formulas.{plain_form, plain_form_zone};
-ghost use Rattle.c_model.specs.AnnotationGrammar.{factor, joined_once, joined_more, joined, linked, links, chain_behind, chain};
+ghost use Rattle.c_model.specs.AnnotationGrammar.{joined_once, joined_more, joined, linked, links, chain_behind, chain};
 ghost use Rattle.c_model.specs.AnnotationGrammar.{implication_behind, chosen_behind, choice_behind, forms, form};
 ghost use Rattle.acsl_parser.specs.Reading.{links_behind, any_zone, any_shift, any_implication, operators, operand};
 ghost use Rattle.acsl_parser.specs.Reading.{plain_range, plain_spanned, plain_spanned_links};
@@ -28,18 +28,6 @@ use std::alloc::Global;
 
 const IMPLIES: u32 = FIRST_MARK + punctuator::IMPLIES as u32;
 
-/// A prefix form, which no range ends.
-#[tactic(auto, unfolding(c_model::specs::AnnotationGrammar::factor))]
-#[cycle(formula)]
-fn factor<'a>(alloc: Global, words: &[Word], tokens: &'a [Token]) -> Read<'a, SpannedForm>
-    ensures read { Gives (λ x. (plain_spanned x.0, plain_list x.1.now)) result
-        ((factor words.now (form words.now) (any_zone words.now)).parse (plain_list tokens.now)) }
-    ensures shorter { IfOk result (λ x. length x.1.now < length tokens.now) }
-{
-    let (x, rest) = prefix(alloc, words, tokens)?;
-    Ok(((x, None), rest))
-}
-
 /// An operand of the operators of a level.
 #[cycle(formula)]
 fn operand<'a>(
@@ -53,7 +41,7 @@ fn operand<'a>(
     ensures shorter { IfOk result (λ x. length x.1.now < length tokens.now) }
 {
     match level {
-        Level::Product => factor(alloc, words, tokens),
+        Level::Product => prefix(alloc, words, mode, tokens),
         Level::Sum => joined(alloc, words, mode, Level::Product, tokens),
         Level::Shift => match mode {
             FormulaMode::Alone => joined(alloc, words, mode, Level::Sum, tokens),
@@ -178,7 +166,7 @@ fn links<'a>(
     }
 }
 
-/// The same, after an operand that this range ends.
+/// The same, after an operand that this ends.
 #[cycle(formula)]
 fn links_behind<'a>(
     alloc: Global,
@@ -229,7 +217,7 @@ fn chain<'a>(
     tokens: &'a [Token],
 ) -> Read<'a, SpannedForm>
     ensures read { Gives (λ x. (plain_spanned x.0, plain_list x.1.now)) result
-        ((chain words.now (form words.now) (any_zone words.now) mode).parse (plain_list tokens.now)) }
+        ((chain words.now (form words.now) (any_zone words.now) (forms words.now mode) mode).parse (plain_list tokens.now)) }
     ensures shorter { IfOk result (λ x. length x.1.now < length tokens.now) }
 {
     let ((left, range), rest) = joined(alloc, words, mode, Level::Shift, tokens)?;
@@ -331,7 +319,7 @@ fn choice_behind<'a>(
 /// A form in a mode.
 #[tactic(auto, using(crate::proofs::ExactForms::forms_is), unfolding(c_model::specs::AnnotationGrammar::form_of))]
 #[cycle(formula)]
-fn forms<'a>(
+pub fn forms<'a>(
     alloc: Global,
     words: &[Word],
     mode: FormulaMode,

@@ -10,6 +10,7 @@ mod terminals;
 
 // Forms, inside others, and zones.
 mod atoms;
+mod binders;
 mod formula;
 mod parts;
 mod prefix;
@@ -17,11 +18,14 @@ mod primary;
 mod span;
 mod sum;
 
-// Clauses within the limit of their tokens, contracts, and the annotation at a place.
+// Clauses within the limit of their tokens, contracts, clauses of loops, and the annotation at a place.
 mod annotation;
 mod clause;
 mod contract;
+mod loop_clauses;
 mod read;
+mod readings;
 
-pub use annotation::{ReadAnnotation, annotations};
+pub use annotation::annotations;
 pub use read::{one_annotation, read_annot};
+pub use readings::{LoopAnnotation, ReadAnnotation};

@@ -5,7 +5,8 @@ ghost use Rattle.c_syntax.specs.Formulas.{plain_form, plain_form_links, plain_fo
 ghost use Rattle.grammar.specs.Syntax.{one, sees};
 ghost use Rattle.c_model.specs.ExpressionGrammar.{kinds_of};
 ghost use Rattle.c_model.specs.Terminals.{placed, mark_entry};
-ghost use Rattle.c_model.specs.AnnotationGrammar.{formula_kind, unended_kinds, relations_behind, joined_forms, chained, zone_of, zones_of, dotted, pointed};
+ghost use Rattle.c_model.specs.AnnotationGrammar.{formula_kind, unended_kinds, relations_behind, joined_forms, chained, zone_of, zones_of};
+ghost use Rattle.c_model.specs.AnnotationGrammar.{quantifier_end, dotted, pointed};
 ghost use Rattle.acsl_parser.specs.Reading.{operators, plain_range, plain_spanned};
 ghost use Rattle.token_reader.specs.Reading.{Gives, TakesNoMemory, plain_list};
 
@@ -41,7 +42,7 @@ fn next_is_operator(words: &[Word], level: Level, tokens: &[Token]) -> bool
     next_is_marked(words, operators(level), tokens)
 }
 
-/// Whether an operator of the level goes on behind a form that this range ends.
+/// Whether an operator of the level goes on behind a form that this ends.
 #[tactic(auto, using(crate::proofs::Turns::sees_nothing))]
 pub fn next_joins(words: &[Word], level: Level, range: &Option<Span>, tokens: &[Token]) -> bool
     ensures { result ≡ sees (formula_kind words.now) (unended_kinds (kinds_of (operators level)) (tt {0}, option_map plain_range range.now))
@@ -150,13 +151,23 @@ pub fn pointed<'a>(
     with_form(alloc, place, FormulaKind::Arrow(x, member), rest)
 }
 
-/// The zone of a form and the range that ends it.
+/// The zone of a form and what ends it.
 pub fn zone_of(form: Formula, range: Option<Span>) -> FormulaZone
     ensures { plain_form_zone result ≡ zone_of (plain_spanned (form, range)) }
 {
     match range {
-        None => FormulaZone::Object(form),
-        Some(Span { place, lo, hi }) => FormulaZone::Elements(place, form, lo, hi),
+        None | Some(Span::Quantifier) => FormulaZone::Object(form),
+        Some(Span::Range(place, lo, hi)) => FormulaZone::Elements(place, form, lo, hi),
+    }
+}
+
+/// What ends a quantifier, by what ends its form.
+pub fn quantifier_end(end: Option<Span>) -> Span
+    ensures { plain_range result ≡ quantifier_end (option_map plain_range end) }
+{
+    match end {
+        None => Span::Quantifier,
+        Some(end) => end,
     }
 }
 

@@ -1,24 +1,28 @@
-//! Casts, prefix forms and postfix forms (ACSL 2.2).
+//! Casts, prefix forms, quantifiers and postfix forms (ACSL 2.2).
 
 ghost use Rattle.std.specs.Prelude.{◌≤◌, ◌<◌, length, IfOk};
 ghost use Rattle.c_syntax.specs.Formulas.{plain_form, plain_cast_type};
 ghost use Rattle.c_model.specs.AnnotationGrammar.{indexed, postfix_once, postfixes, worded_postfix, cast_behind, cast_to_type, cast_to_integer};
-ghost use Rattle.c_model.specs.AnnotationGrammar.{closed_postfix, parenthesised, behind_parenthesis, prefixed, bare_prefix, form};
-ghost use Rattle.acsl_parser.specs.Reading.{any_zone, any_prefix};
+ghost use Rattle.c_model.specs.AnnotationGrammar.{closed_postfix, parenthesised, behind_parenthesis, prefixed, quantified, bare_prefix, forms, form};
+ghost use Rattle.acsl_parser.specs.Reading.{any_zone, any_prefix, plain_spanned};
 ghost use Rattle.token_reader.specs.Reading.{Gives, plain_list};
 
-use crate::atoms::{sized_form, with_form};
-use crate::formula::form;
-use crate::parts::{dotted, pointed};
+use crate::atoms::{sized_form, with_form, with_range};
+use crate::binders::binders;
+use crate::formula::{form, forms};
+use crate::parts::{dotted, pointed, quantifier_end};
 use crate::primary::worded;
-use crate::span::Read;
+use crate::span::{Read, SpannedForm};
 use crate::tables::PREFIXES;
 use crate::terminals::{
-    INTEGER, integer_word, next_begins_type, next_is, next_is_marked, next_is_postfix,
+    INTEGER, integer_word, next_begins_type, next_is, next_is_marked, next_is_postfix, quantifier,
 };
-use c_expr_parser::kinds::{DOT, LEFT_BRACKET, LEFT_PAREN, RIGHT_BRACKET, RIGHT_PAREN, SIZEOF};
+use c_expr_parser::kinds::{
+    DOT, LEFT_BRACKET, LEFT_PAREN, QUANTIFIER, RIGHT_BRACKET, RIGHT_PAREN, SIZEOF,
+};
 use c_expr_parser::terminals::{kept, skip};
 use c_expr_parser::type_name;
+use c_model::formulas::FormulaMode;
 use c_model::vocabulary::Word;
 use c_syntax::logic::{Formula, FormulaKind, LogicType};
 use c_syntax::{Place, Token};
@@ -31,17 +35,18 @@ use token_reader::terminals::marked;
 fn cast_behind<'a>(
     alloc: Global,
     words: &[Word],
+    mode: FormulaMode,
     place: Place,
     to: LogicType,
     tokens: &'a [Token],
-) -> Read<'a, Formula>
-    ensures read { Gives (λ x. (plain_form x.0, plain_list x.1.now)) result
-        ((cast_behind words.now (any_prefix words.now) place (plain_cast_type to)).parse (plain_list tokens.now)) }
+) -> Read<'a, SpannedForm>
+    ensures read { Gives (λ x. (plain_spanned x.0, plain_list x.1.now)) result
+        ((cast_behind words.now (any_prefix words.now mode) place (plain_cast_type to)).parse (plain_list tokens.now)) }
     ensures shorter { IfOk result (λ x. length x.1.now < length tokens.now) }
 {
     let (to, (_, rest)) = kept(to, skip(words, RIGHT_PAREN, tokens))?;
-    let (to, (x, rest)) = kept(to, prefix(alloc, words, rest))?;
-    with_form(alloc, place, FormulaKind::Cast(to, x), rest)
+    let (to, ((x, end), rest)) = kept(to, prefix(alloc, words, mode, rest))?;
+    with_range(alloc, place, FormulaKind::Cast(to, x), end, rest)
 }
 
 /// `type ")" prefix`, after `(`.
@@ -50,15 +55,16 @@ fn cast_behind<'a>(
 pub fn cast_to_type<'a>(
     alloc: Global,
     words: &[Word],
+    mode: FormulaMode,
     place: Place,
     tokens: &'a [Token],
-) -> Read<'a, Formula>
-    ensures read { Gives (λ x. (plain_form x.0, plain_list x.1.now)) result
-        ((cast_to_type words.now (any_prefix words.now) place).parse (plain_list tokens.now)) }
+) -> Read<'a, SpannedForm>
+    ensures read { Gives (λ x. (plain_spanned x.0, plain_list x.1.now)) result
+        ((cast_to_type words.now (any_prefix words.now mode) place).parse (plain_list tokens.now)) }
     ensures shorter { IfOk result (λ x. length x.1.now < length tokens.now) }
 {
     let (t, rest) = type_name(alloc, words, tokens)?;
-    cast_behind(alloc, words, place, LogicType::Of(t), rest)
+    cast_behind(alloc, words, mode, place, LogicType::Of(t), rest)
 }
 
 /// `"integer" ")" prefix`, after `(`.
@@ -67,15 +73,16 @@ pub fn cast_to_type<'a>(
 pub fn cast_to_integer<'a>(
     alloc: Global,
     words: &[Word],
+    mode: FormulaMode,
     place: Place,
     tokens: &'a [Token],
-) -> Read<'a, Formula>
-    ensures read { Gives (λ x. (plain_form x.0, plain_list x.1.now)) result
-        ((cast_to_integer words.now (any_prefix words.now) place).parse (plain_list tokens.now)) }
+) -> Read<'a, SpannedForm>
+    ensures read { Gives (λ x. (plain_spanned x.0, plain_list x.1.now)) result
+        ((cast_to_integer words.now (any_prefix words.now mode) place).parse (plain_list tokens.now)) }
     ensures shorter { IfOk result (λ x. length x.1.now < length tokens.now) }
 {
     let (_, rest) = integer_word(words, tokens)?;
-    cast_behind(alloc, words, place, LogicType::Integer, rest)
+    cast_behind(alloc, words, mode, place, LogicType::Integer, rest)
 }
 
 /// `"[" form "]"`, after a form.
@@ -162,12 +169,13 @@ pub fn closed_postfix<'a>(
 /// `form ")"` and postfix operators, after `(`.
 #[tactic(auto, unfolding(c_model::specs::AnnotationGrammar::parenthesised))]
 #[cycle(formula)]
-fn parenthesised<'a>(alloc: Global, words: &[Word], tokens: &'a [Token]) -> Read<'a, Formula>
-    ensures read { Gives (λ x. (plain_form x.0, plain_list x.1.now)) result ((parenthesised words.now (form words.now)).parse (plain_list tokens.now)) }
+fn parenthesised<'a>(alloc: Global, words: &[Word], tokens: &'a [Token]) -> Read<'a, SpannedForm>
+    ensures read { Gives (λ x. (plain_spanned x.0, plain_list x.1.now)) result ((parenthesised words.now (form words.now)).parse (plain_list tokens.now)) }
     ensures shorter { IfOk result (λ x. length x.1.now < length tokens.now) }
 {
     let (x, rest) = form(alloc, words, tokens)?;
-    closed_postfix(alloc, words, x, rest)
+    let (x, rest) = closed_postfix(alloc, words, x, rest)?;
+    Ok(((x, None), rest))
 }
 
 /// What stands after `(`.
@@ -176,17 +184,18 @@ fn parenthesised<'a>(alloc: Global, words: &[Word], tokens: &'a [Token]) -> Read
 fn behind_parenthesis<'a>(
     alloc: Global,
     words: &[Word],
+    mode: FormulaMode,
     place: Place,
     tokens: &'a [Token],
-) -> Read<'a, Formula>
-    ensures read { Gives (λ x. (plain_form x.0, plain_list x.1.now)) result
-        ((behind_parenthesis words.now (form words.now) (any_prefix words.now) place).parse (plain_list tokens.now)) }
+) -> Read<'a, SpannedForm>
+    ensures read { Gives (λ x. (plain_spanned x.0, plain_list x.1.now)) result
+        ((behind_parenthesis words.now (form words.now) (any_prefix words.now mode) place).parse (plain_list tokens.now)) }
     ensures shorter { IfOk result (λ x. length x.1.now < length tokens.now) }
 {
     if next_begins_type(words, tokens) {
-        cast_to_type(alloc, words, place, tokens)
+        cast_to_type(alloc, words, mode, place, tokens)
     } else if next_is(words, INTEGER, tokens) {
-        cast_to_integer(alloc, words, place, tokens)
+        cast_to_integer(alloc, words, mode, place, tokens)
     } else {
         parenthesised(alloc, words, tokens)
     }
@@ -195,13 +204,38 @@ fn behind_parenthesis<'a>(
 /// A prefix operator and its operand.
 #[tactic(auto, unfolding(c_model::specs::AnnotationGrammar::prefixed))]
 #[cycle(formula)]
-fn prefixed<'a>(alloc: Global, words: &[Word], tokens: &'a [Token]) -> Read<'a, Formula>
-    ensures read { Gives (λ x. (plain_form x.0, plain_list x.1.now)) result ((prefixed words.now (any_prefix words.now)).parse (plain_list tokens.now)) }
+fn prefixed<'a>(
+    alloc: Global,
+    words: &[Word],
+    mode: FormulaMode,
+    tokens: &'a [Token],
+) -> Read<'a, SpannedForm>
+    ensures read { Gives (λ x. (plain_spanned x.0, plain_list x.1.now)) result
+        ((prefixed words.now (any_prefix words.now mode)).parse (plain_list tokens.now)) }
     ensures shorter { IfOk result (λ x. length x.1.now < length tokens.now) }
 {
     let (op, place, rest) = marked(PREFIXES, tokens)?;
-    let (x, rest) = prefix(alloc, words, rest)?;
-    with_form(alloc, place, FormulaKind::Unary(op, x), rest)
+    let ((x, end), rest) = prefix(alloc, words, mode, rest)?;
+    with_range(alloc, place, FormulaKind::Unary(op, x), end, rest)
+}
+
+/// A quantifier, its binders and what it says.
+#[tactic(auto, unfolding(c_model::specs::AnnotationGrammar::quantified))]
+#[cycle(formula)]
+fn quantified<'a>(
+    alloc: Global,
+    words: &[Word],
+    mode: FormulaMode,
+    tokens: &'a [Token],
+) -> Read<'a, SpannedForm>
+    ensures read { Gives (λ x. (plain_spanned x.0, plain_list x.1.now)) result ((quantified words.now (forms words.now mode)).parse (plain_list tokens.now)) }
+    ensures shorter { IfOk result (λ x. length x.1.now < length tokens.now) }
+{
+    let (quantifier, place, rest) = quantifier(words, tokens)?;
+    let (bound, rest) = binders(alloc, words, rest)?;
+    let ((to, names), ((x, end), rest)) = kept(bound, forms(alloc, words, mode, rest))?;
+    let kind = FormulaKind::Quantified(quantifier, to, names, x);
+    with_range(alloc, place, kind, Some(quantifier_end(end)), rest)
 }
 
 /// A postfix form that begins with no parenthesis.
@@ -219,31 +253,45 @@ fn worded_postfix<'a>(alloc: Global, words: &[Word], tokens: &'a [Token]) -> Rea
 /// A prefix form that begins with no parenthesis.
 #[tactic(auto, unfolding(c_model::specs::AnnotationGrammar::bare_prefix))]
 #[cycle(formula)]
-pub fn bare_prefix<'a>(alloc: Global, words: &[Word], tokens: &'a [Token]) -> Read<'a, Formula>
-    ensures read { Gives (λ x. (plain_form x.0, plain_list x.1.now)) result
-        ((bare_prefix words.now (form words.now) (any_zone words.now) (any_prefix words.now)).parse (plain_list tokens.now)) }
+pub fn bare_prefix<'a>(
+    alloc: Global,
+    words: &[Word],
+    mode: FormulaMode,
+    tokens: &'a [Token],
+) -> Read<'a, SpannedForm>
+    ensures read { Gives (λ x. (plain_spanned x.0, plain_list x.1.now)) result
+        ((bare_prefix words.now (form words.now) (any_zone words.now) (forms words.now mode) (any_prefix words.now mode)).parse (plain_list tokens.now)) }
     ensures shorter { IfOk result (λ x. length x.1.now < length tokens.now) }
 {
     if next_is_marked(words, PREFIXES, tokens) {
-        prefixed(alloc, words, tokens)
+        prefixed(alloc, words, mode, tokens)
     } else if next_is(words, SIZEOF, tokens) {
-        sized_form(alloc, words, tokens)
+        let (x, rest) = sized_form(alloc, words, tokens)?;
+        Ok(((x, None), rest))
+    } else if next_is(words, QUANTIFIER, tokens) {
+        quantified(alloc, words, mode, tokens)
     } else {
-        worded_postfix(alloc, words, tokens)
+        let (x, rest) = worded_postfix(alloc, words, tokens)?;
+        Ok(((x, None), rest))
     }
 }
 
 /// A prefix operator or a cast with its operand, or a postfix form.
 #[tactic(auto, using(crate::proofs::ExactForms::prefix_is), unfolding(c_model::specs::AnnotationGrammar::prefix_of))]
 #[cycle(formula)]
-pub fn prefix<'a>(alloc: Global, words: &[Word], tokens: &'a [Token]) -> Read<'a, Formula>
-    ensures read { Gives (λ x. (plain_form x.0, plain_list x.1.now)) result ((any_prefix words.now).parse (plain_list tokens.now)) }
+pub fn prefix<'a>(
+    alloc: Global,
+    words: &[Word],
+    mode: FormulaMode,
+    tokens: &'a [Token],
+) -> Read<'a, SpannedForm>
+    ensures read { Gives (λ x. (plain_spanned x.0, plain_list x.1.now)) result ((any_prefix words.now mode).parse (plain_list tokens.now)) }
     ensures shorter { IfOk result (λ x. length x.1.now < length tokens.now) }
 {
     if next_is(words, LEFT_PAREN, tokens) {
         let (place, rest) = skip(words, LEFT_PAREN, tokens)?;
-        behind_parenthesis(alloc, words, place, rest)
+        behind_parenthesis(alloc, words, mode, place, rest)
     } else {
-        bare_prefix(alloc, words, tokens)
+        bare_prefix(alloc, words, mode, tokens)
     }
 }

@@ -7,9 +7,11 @@ ghost use Rattle.c_syntax.specs.Programs.{plain_contract};
 ghost use Rattle.c_syntax.specs.Tokens.{plain_tokens};
 ghost use Rattle.c_model.specs.Vocabulary.{Vocabulary};
 ghost use Rattle.c_model.specs.ClauseGrammar.{annotations};
-ghost use Rattle.acsl_parser.specs.Answers.{IsReadAt, RefusesAt};
+ghost use Rattle.acsl_parser.specs.Answers.{IsReadAt, RefusesAt, clauses_of, contract_of};
+ghost use Rattle.acsl_parser.specs.Reading.{plain_read};
 
 use crate::annotation::annotations;
+use crate::readings::ReadAnnotation;
 use c_expr_parser::vocabulary::{vocabulary, with_types};
 use c_syntax::{Annot, Contract, FrontFault, Token, Tokens};
 use std::alloc::Global;
@@ -21,6 +23,18 @@ fn place_behind(list: &[Token], left: &[Token]) -> usize
     ensures { result + length left.now ≡ length list.now }
 {
     list.len() - left.len()
+}
+
+/// The clauses of asserts or of a loop, or the contract.
+fn parts_of(alloc: Global, read: ReadAnnotation) -> (Vec<Annot>, Option<Contract>)
+    ensures clauses { map plain_annot result.0.items ≡ clauses_of (plain_read read) }
+    ensures contract { option_map plain_contract result.1 ≡ contract_of (plain_read read) }
+{
+    match read {
+        ReadAnnotation::Asserts(clauses) => (clauses, None),
+        ReadAnnotation::Contract(contract) => (Vec::new(alloc), Some(contract)),
+        ReadAnnotation::Loop(all) => (all.clauses, None),
+    }
 }
 
 /// The annotation that stands at a place of the tokens, counted from 0, and the place of the first token after it. Its clauses take the
@@ -43,7 +57,11 @@ pub fn read_annot(
     let list = tokens.list.as_slice();
     let (_, rest) = list.split_at(at);
     match annotations(alloc, words.as_slice(), first, rest) {
-        Ok((read, _, left)) => Ok((read.0, read.1, place_behind(list, left))),
+        Ok((read, _, left)) => {
+            let behind = place_behind(list, left);
+            let (clauses, contract) = parts_of(alloc, read);
+            Ok((clauses, contract, behind))
+        }
         Err(fault) => Err(refuse(alloc, tokens, fault)),
     }
 }

@@ -4,7 +4,7 @@ ghost use Rattle.std.specs.Prelude.{◌≤◌, ◌<◌, length, IfOk};
 ghost use Rattle.c_syntax.specs.Formulas.{plain_form};
 ghost use Rattle.c_model.specs.declared.formulas.FormulaMode.TheVariants.{Zone};
 ghost use Rattle.c_model.specs.AnnotationGrammar.{joined_once, difference_operators, added_rest, ranged, behind_first, added_parenthesis, added};
-ghost use Rattle.c_model.specs.AnnotationGrammar.{sum_once, sum_more, zone_sum, form};
+ghost use Rattle.c_model.specs.AnnotationGrammar.{sum_once, sum_more, zone_sum, forms, form};
 ghost use Rattle.acsl_parser.specs.declared.tables.Level.TheVariants.{Sum};
 ghost use Rattle.acsl_parser.specs.Reading.{any_zone, operand, plain_spanned};
 ghost use Rattle.token_reader.specs.Reading.{Gives, plain_list};
@@ -33,21 +33,15 @@ fn added_rest<'a>(
     words: &[Word],
     left: Formula,
     place: Place,
-    x: Formula,
+    x: SpannedForm,
     tokens: &'a [Token],
 ) -> Read<'a, SpannedForm>
     ensures read { Gives (λ x. (plain_spanned x.0, plain_list x.1.now)) result
-        ((added_rest words.now (form words.now) (any_zone words.now) (plain_form left) place (plain_form x)).parse (plain_list tokens.now)) }
+        ((added_rest words.now (form words.now) (any_zone words.now) (forms words.now Zone)
+        (plain_form left) place (plain_spanned x)).parse (plain_list tokens.now)) }
     ensures shorter { IfOk result (λ x. length x.1.now ≤ length tokens.now) }
 {
-    let product = joined_more(
-        alloc,
-        words,
-        FormulaMode::Zone,
-        Level::Product,
-        (x, None),
-        tokens,
-    );
+    let product = joined_more(alloc, words, FormulaMode::Zone, Level::Product, x, tokens);
     let (left, ((x, range), rest)) = kept(left, product)?;
     with_range(
         alloc,
@@ -75,7 +69,7 @@ fn ranged<'a>(
 {
     let (parts, (_, rest)) = kept((left, lo), skip(words, DOTS, tokens))?;
     let ((left, lo), (hi, rest)) = kept(parts, form(alloc, words, rest))?;
-    let ended = (left, Some(Span { place, lo, hi }));
+    let ended = (left, Some(Span::Range(place, lo, hi)));
     let (ended, (_, rest)) = kept(ended, skip(words, RIGHT_PAREN, rest))?;
     Ok((ended, rest))
 }
@@ -92,14 +86,15 @@ fn behind_first<'a>(
     tokens: &'a [Token],
 ) -> Read<'a, SpannedForm>
     ensures read { Gives (λ x. (plain_spanned x.0, plain_list x.1.now)) result
-        ((behind_first words.now (form words.now) (any_zone words.now) (plain_form left) place (plain_form x)).parse (plain_list tokens.now)) }
+        ((behind_first words.now (form words.now) (any_zone words.now) (forms words.now Zone)
+        (plain_form left) place (plain_form x)).parse (plain_list tokens.now)) }
     ensures shorter { IfOk result (λ x. length x.1.now < length tokens.now) }
 {
     if next_is(words, DOTS, tokens) {
         return ranged(alloc, words, left, place, x, tokens);
     }
     let (left, (x, rest)) = kept(left, closed_postfix(alloc, words, x, tokens))?;
-    added_rest(alloc, words, left, place, x, rest)
+    added_rest(alloc, words, left, place, (x, None), rest)
 }
 
 /// What stands after `+ (`, where the `(` stands at the second place.
@@ -114,14 +109,21 @@ fn added_parenthesis<'a>(
     tokens: &'a [Token],
 ) -> Read<'a, SpannedForm>
     ensures read { Gives (λ x. (plain_spanned x.0, plain_list x.1.now)) result
-        ((added_parenthesis words.now (form words.now) (any_zone words.now) (plain_form left) place parenthesis).parse (plain_list tokens.now)) }
+        ((added_parenthesis words.now (form words.now) (any_zone words.now) (forms words.now Zone)
+        (plain_form left) place parenthesis).parse (plain_list tokens.now)) }
     ensures shorter { IfOk result (λ x. length x.1.now < length tokens.now) }
 {
     if next_begins_type(words, tokens) {
-        let (left, (x, rest)) = kept(left, cast_to_type(alloc, words, parenthesis, tokens))?;
+        let (left, (x, rest)) = kept(
+            left,
+            cast_to_type(alloc, words, FormulaMode::Zone, parenthesis, tokens),
+        )?;
         added_rest(alloc, words, left, place, x, rest)
     } else if next_is(words, INTEGER, tokens) {
-        let (left, (x, rest)) = kept(left, cast_to_integer(alloc, words, parenthesis, tokens))?;
+        let (left, (x, rest)) = kept(
+            left,
+            cast_to_integer(alloc, words, FormulaMode::Zone, parenthesis, tokens),
+        )?;
         added_rest(alloc, words, left, place, x, rest)
     } else {
         let (left, (x, rest)) = kept(left, form(alloc, words, tokens))?;
@@ -140,14 +142,14 @@ fn added<'a>(
     tokens: &'a [Token],
 ) -> Read<'a, SpannedForm>
     ensures read { Gives (λ x. (plain_spanned x.0, plain_list x.1.now)) result
-        ((added words.now (form words.now) (any_zone words.now) (plain_form left) place).parse (plain_list tokens.now)) }
+        ((added words.now (form words.now) (any_zone words.now) (forms words.now Zone) (plain_form left) place).parse (plain_list tokens.now)) }
     ensures shorter { IfOk result (λ x. length x.1.now < length tokens.now) }
 {
     if next_is(words, LEFT_PAREN, tokens) {
         let (left, (parenthesis, rest)) = kept(left, skip(words, LEFT_PAREN, tokens))?;
         added_parenthesis(alloc, words, left, place, parenthesis, rest)
     } else {
-        let (left, (x, rest)) = kept(left, bare_prefix(alloc, words, tokens))?;
+        let (left, (x, rest)) = kept(left, bare_prefix(alloc, words, FormulaMode::Zone, tokens))?;
         added_rest(alloc, words, left, place, x, rest)
     }
 }
@@ -181,7 +183,7 @@ fn sum_once<'a>(
     tokens: &'a [Token],
 ) -> Read<'a, SpannedForm>
     ensures read { Gives (λ x. (plain_spanned x.0, plain_list x.1.now)) result
-        ((sum_once words.now (form words.now) (any_zone words.now) (plain_form left)).parse (plain_list tokens.now)) }
+        ((sum_once words.now (form words.now) (any_zone words.now) (forms words.now Zone) (plain_form left)).parse (plain_list tokens.now)) }
     ensures shorter { IfOk result (λ x. length x.1.now < length tokens.now) }
 {
     if next_is(words, PLUS, tokens) {
@@ -202,7 +204,7 @@ fn sum_more<'a>(
     tokens: &'a [Token],
 ) -> Read<'a, SpannedForm>
     ensures read { Gives (λ x. (plain_spanned x.0, plain_list x.1.now)) result
-        ((sum_more words.now (form words.now) (any_zone words.now) (plain_spanned left)).parse (plain_list tokens.now)) }
+        ((sum_more words.now (form words.now) (any_zone words.now) (forms words.now Zone) (plain_spanned left)).parse (plain_list tokens.now)) }
     ensures shorter { IfOk result (λ x. length x.1.now ≤ length tokens.now) }
 {
     let (mut left, mut range) = left;
@@ -221,7 +223,7 @@ fn sum_more<'a>(
 #[cycle(formula)]
 pub fn zone_sum<'a>(alloc: Global, words: &[Word], tokens: &'a [Token]) -> Read<'a, SpannedForm>
     ensures read { Gives (λ x. (plain_spanned x.0, plain_list x.1.now)) result
-        ((zone_sum words.now (form words.now) (any_zone words.now)).parse (plain_list tokens.now)) }
+        ((zone_sum words.now (form words.now) (any_zone words.now) (forms words.now Zone)).parse (plain_list tokens.now)) }
     ensures shorter { IfOk result (λ x. length x.1.now < length tokens.now) }
 {
     let (left, rest) = joined(alloc, words, FormulaMode::Zone, Level::Product, tokens)?;

@@ -6,14 +6,15 @@ ghost use Rattle.c_syntax.specs.Tokens.{plain_token};
 ghost use Rattle.c_model.specs.Terminals.{placed};
 ghost use Rattle.c_model.specs.ExpressionGrammar.{first_type, kinds_of};
 ghost use Rattle.c_model.specs.AnnotationGrammar.{first_behind, formula_kind, formula_word_kind, formula_name_of};
-ghost use Rattle.c_model.specs.AnnotationGrammar.{truth_word, truth_of, fact_word, fact_of, question_word, question_of, integer_word};
+ghost use Rattle.c_model.specs.AnnotationGrammar.{truth_word, truth_of, fact_word, fact_of, question_word, question_of};
+ghost use Rattle.c_model.specs.AnnotationGrammar.{quantifier_word, quantifier_of, integer_word};
 ghost use Rattle.token_reader.specs.Reading.{Gives, TakesNoMemory, plain_list};
 
 use c_expr_parser::kinds::{ARROW, DOT, LEFT_BRACKET, NAME, kind, word_at, word_kind};
 use c_expr_parser::terminals as c_terminals;
 use c_model::vocabulary::{LogicWord, Word};
 use c_syntax::fault::ReadFault;
-use c_syntax::logic::{BlockFact, MemoryQuestion};
+use c_syntax::logic::{BlockFact, MemoryQuestion, Quantifier};
 use c_syntax::{Place, Token, TokenKind};
 use token_reader::terminals::left;
 
@@ -191,6 +192,36 @@ pub fn question<'a>(
         [token, rest @ ..] => match &token.kind {
             TokenKind::Word(number) => match question_word(word_at(words, *number)) {
                 Some(question) => Ok((question, token.place, rest)),
+                None => Err(ReadFault::At(left(tokens))),
+            },
+            _ => Err(ReadFault::At(left(tokens))),
+        },
+    }
+}
+
+fn quantifier_word(word: Word) -> Option<Quantifier>
+    ensures { result ≡ quantifier_word word }
+{
+    match word {
+        Word::Logic(LogicWord::Quantifier(quantifier)) => Some(quantifier),
+        _ => None,
+    }
+}
+
+/// `\forall` or `\exists`.
+pub fn quantifier<'a>(
+    words: &[Word],
+    tokens: &'a [Token],
+) -> Result<(Quantifier, Place, &'a [Token]), ReadFault>
+    ensures read { Gives (λ x. ((x.0, x.1), plain_list x.2.now)) result ((one (placed (quantifier_of words.now))).parse (plain_list tokens.now)) }
+    ensures shorter { IfOk result (λ x. length x.2.now < length tokens.now) }
+    ensures sure { IfErr result TakesNoMemory }
+{
+    match tokens {
+        [] => Err(ReadFault::At(0)),
+        [token, rest @ ..] => match &token.kind {
+            TokenKind::Word(number) => match quantifier_word(word_at(words, *number)) {
+                Some(quantifier) => Ok((quantifier, token.place, rest)),
                 None => Err(ReadFault::At(left(tokens))),
             },
             _ => Err(ReadFault::At(left(tokens))),

@@ -86,7 +86,7 @@ module _ (ws : Vocabulary) where
       within_joined_none : (xs : List ℕ) → within (xs ++ []) xs ≡ true
       within_joined_none xs = within_both xs [] xs (within_self xs) refl
 
-  integer_words_good : {n : ℕ} → AreRead ws n (integer_words ws) (integer_words ws) false first_integer_words first_integer_words
+  pub integer_words_good : {n : ℕ} → AreRead ws n (integer_words ws) (integer_words ws) false first_integer_words first_integer_words
   unfolding integer_words
   integer_words_good =
       declared (seq (integer_word_good no_words) (λ x. seq (enlarged ws first_integer_words first_integer_words (again_and_again_to words_behind words_behind (integer_word_good) words_fit x) (words_within x) words_within) (λ y. given _) refl) refl)

@@ -89,7 +89,7 @@ keyword_small keyword.Case = omega arith
 keyword_small keyword.Default = omega arith
 keyword_small keyword.Kept = omega arith
 
-logic_small : (w : LogicWord) → logic_word_kind w ≤ 41
+logic_small : (w : LogicWord) → logic_word_kind w ≤ 42
 logic_small (logic.Truth b) = omega arith
 logic_small logic.Null = omega arith
 logic_small (logic.Told f) = omega arith
@@ -98,6 +98,7 @@ logic_small logic.Separated = omega arith
 logic_small logic.Result = omega arith
 logic_small logic.Old = omega arith
 logic_small logic.At = omega arith
+logic_small (logic.Quantifier q) = omega arith
 logic_small logic.Kept = omega arith
 
 -- no word of annotations has the kind of a literal, of the name of a type, or of a word of an integer type
@@ -110,6 +111,7 @@ no_logic_literal logic.Separated k l g h = let e = eqb-true 38 k h in omega (ari
 no_logic_literal logic.Result k l g h = let e = eqb-true 39 k h in omega (arith, e)
 no_logic_literal logic.Old k l g h = let e = eqb-true 40 k h in omega (arith, e)
 no_logic_literal logic.At k l g h = let e = eqb-true 41 k h in omega (arith, e)
+no_logic_literal (logic.Quantifier q) k l g h = let e = eqb-true 42 k h in omega (arith, e)
 no_logic_literal logic.Kept k l g h = let e = eqb-true 5 k h in omega (arith, e)
 
 no_logic_type_name : (w : LogicWord) → eqb (logic_word_kind w) type_name_kind ≡ true → ⊥
@@ -121,6 +123,7 @@ no_logic_type_name logic.Separated h = cc
 no_logic_type_name logic.Result h = cc
 no_logic_type_name logic.Old h = cc
 no_logic_type_name logic.At h = cc
+no_logic_type_name (logic.Quantifier q) h = cc
 no_logic_type_name logic.Kept h = cc
 
 no_logic_integer : (w : LogicWord) → 10 ≤ logic_word_kind w → logic_word_kind w ≤ 15 → ⊥
@@ -132,9 +135,10 @@ no_logic_integer logic.Separated l g = omega (arith, l, g)
 no_logic_integer logic.Result l g = omega (arith, l, g)
 no_logic_integer logic.Old l g = omega (arith, l, g)
 no_logic_integer logic.At l g = omega (arith, l, g)
+no_logic_integer (logic.Quantifier q) l g = omega (arith, l, g)
 no_logic_integer logic.Kept l g = omega (arith, l, g)
 
-pub word_small : (w : Word) → word_kind w ≤ 41
+pub word_small : (w : Word) → word_kind w ≤ 42
 word_small (word.Keyword k) = let s = keyword_small k in omega (arith, s)
 word_small (word.TypeName t) = omega arith
 word_small (word.Clause c) = omega arith
@@ -301,7 +305,7 @@ module _ (ws : Vocabulary) where
   marks_taken : {A : Type 0} (table : List (ℕ × A)) (t : PlainTokenKind) → among (token_kind ws t) (kinds_of table) ≡ true → (x : A) × (mark_entry table t ≡ Some x)
   marks_taken {A} table t h = by t h
     where
-      other : (k : PlainTokenKind) → token_kind ws k ≤ 41 → among (token_kind ws k) (kinds_of table) ≡ true → (x : A) × (mark_entry table k ≡ Some x)
+      other : (k : PlainTokenKind) → token_kind ws k ≤ 42 → among (token_kind ws k) (kinds_of table) ≡ true → (x : A) × (mark_entry table k ≡ Some x)
       other k small g = in_table _ (token_kind ws k) table (λ m x is e. absurd (omega (arith, small, is))) g
 
       by : (k : PlainTokenKind) → among (token_kind ws k) (kinds_of table) ≡ true → (x : A) × (mark_entry table k ≡ Some x)

@@ -91,6 +91,8 @@ pub const OLD: u32 = 40;
 
 pub const AT: u32 = 41;
 
+pub const QUANTIFIER: u32 = 42;
+
 /// The kind of the first punctuator in the list of all; the others follow.
 pub const FIRST_MARK: u32 = 60;
 
@@ -192,6 +194,7 @@ fn logic_word_kind(word: LogicWord) -> u32
         LogicWord::Result => RESULT,
         LogicWord::Old => OLD,
         LogicWord::At => AT,
+        LogicWord::Quantifier(_) => QUANTIFIER,
     }
 }
 

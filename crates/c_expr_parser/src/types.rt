@@ -218,7 +218,7 @@ pub fn integer_type(x: IntegerWords) -> CInt
 
 /// The words of an integer type, in any order.
 #[tactic(auto, unfolding(c_model::specs::ExpressionGrammar::integer_words, crate::specs::Reading::more_words))]
-fn integer_words<'a>(
+pub fn integer_words<'a>(
     words: &[Word],
     tokens: &'a [Token],
 ) -> Result<(BaseType, &'a [Token]), ReadFault>
@@ -255,7 +255,7 @@ fn typedef_name_of(words: &[Word], kind: &TokenKind) -> Option<BaseType>
 
 /// The name of a type.
 #[tactic(auto, unfolding(c_model::specs::ExpressionGrammar::typedef_name))]
-fn typedef_name<'a>(
+pub fn typedef_name<'a>(
     words: &[Word],
     tokens: &'a [Token],
 ) -> Result<(BaseType, &'a [Token]), ReadFault>
@@ -286,7 +286,10 @@ fn struct_tag<'a>(words: &[Word], tokens: &'a [Token]) -> Result<(BaseType, &'a 
 
 /// `enum` with a tag.
 #[tactic(auto, unfolding(c_model::specs::ExpressionGrammar::enum_tag))]
-fn enum_tag<'a>(words: &[Word], tokens: &'a [Token]) -> Result<(BaseType, &'a [Token]), ReadFault>
+pub fn enum_tag<'a>(
+    words: &[Word],
+    tokens: &'a [Token],
+) -> Result<(BaseType, &'a [Token]), ReadFault>
     ensures read { Gives (λ t. (plain_base t.0, plain_list t.1.now)) result ((enum_tag words.now).parse (plain_list tokens.now)) }
     ensures shorter { IfOk result (λ t. length t.1.now < length tokens.now) }
     ensures sure { IfErr result TakesNoMemory }

@@ -8,7 +8,7 @@ ghost use Rattle.c_model.specs.Terminals.{found_in};
 
 use crate::kinds::word_at;
 use c_model::vocabulary::{ClauseWord, Keyword, LogicWord, TypeName, Word};
-use c_syntax::logic::{BlockFact, MemoryQuestion};
+use c_syntax::logic::{BlockFact, MemoryQuestion, Quantifier};
 use c_syntax::{CInt, Name};
 use std::alloc::{AllocError, Global};
 use token_reader::words::found_in;
@@ -88,6 +88,10 @@ fn other_word(bytes: &[u8], other: Word) -> Word
             (b"complete", Word::Clause(ClauseWord::Complete)),
             (b"disjoint", Word::Clause(ClauseWord::Disjoint)),
             (b"behaviors", Word::Clause(ClauseWord::Behaviors)),
+            (b"assigns", Word::Clause(ClauseWord::Assigns)),
+            (b"loop", Word::Clause(ClauseWord::Loop)),
+            (b"invariant", Word::Clause(ClauseWord::Invariant)),
+            (b"variant", Word::Clause(ClauseWord::Variant)),
         ],
         bytes,
         other,
@@ -113,6 +117,8 @@ fn logic_word(bytes: &[u8]) -> LogicWord
             (b"result", LogicWord::Result),
             (b"old", LogicWord::Old),
             (b"at", LogicWord::At),
+            (b"forall", LogicWord::Quantifier(Quantifier::ForAll)),
+            (b"exists", LogicWord::Quantifier(Quantifier::Exists)),
         ],
         bytes,
         LogicWord::Kept,

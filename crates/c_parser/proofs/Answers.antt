@@ -4,7 +4,6 @@ use Rattle.grammar.specs.Syntax.{ParseFault, At, Over}
 use Rattle.grammar.specs.Exact.{Accepts, AtMostOne, ReadingsBegin, FrontsBegin, OneLimit, IsExact}
 use Rattle.grammar.proofs.Parts.{ok_is}
 use Rattle.grammar.proofs.Theorem.{found, refused, accepts, accepts_back, readings_begin, fronts_begin, one_limit}
-use Rattle.c_syntax.specs.RefusalCodes.{misplaced_code}
 use Rattle.c_syntax.specs.declared.place.Place.{Place}
 use Rattle.c_syntax.specs.declared.token.Token.{Token}
 use Rattle.c_syntax.specs.Tokens.{PlainToken, PlainTokens, plain_token}
@@ -15,7 +14,9 @@ use Rattle.c_syntax.specs.declared.fault.ReadFault.{ReadFault}
 use Rattle.c_syntax.specs.declared.fault.ReadFault.TheVariants as fault
 use Rattle.c_model.specs.Vocabulary.{Vocabulary}
 use Rattle.c_model.specs.ProgramGrammar.{FileParts, no_parts, texts_of, unit_with, any_kind, more_external, unit}
-use Rattle.c_model.specs.Phases.{vocabulary, IsRead, IsSyntaxFault}
+use Rattle.c_model.specs.Checked.{Fault}
+use Rattle.c_model.specs.Phases.{vocabulary, IsRead, IsSyntaxFault, place_fault}
+use Rattle.c_parser.proofs.PlaceFaults.{no_fault}
 use Rattle.c_model.specs.TokenWords.{syntax_refusal, refused_at_place}
 use Rattle.token_reader.specs.Reading.{plain_list, label, Fails}
 use Rattle.token_reader.specs.Answers.{RefusesWith, RefusesFault}
@@ -103,17 +104,22 @@ module _ (ts : PlainTokens) (ws : Vocabulary) (names : List (List ℕ)) (texts :
   read_whole x [] e z = whole ts (unit_with names texts x, x.annotations.misplaced) (sym same ∙ of_parts x [] e)
   read_whole x (t ∷ rest) e z = absurd cc
 
-  pub read_placed : (x : FileParts) (rest : List Token) → (more_external (no_parts ws)).parse list ≡ Ok (x, plain_list rest) → length rest ≡ 0 → x.annotations.misplaced ≡ None → IsRead ts (unit_with names texts x)
+  pub read_placed : (x : FileParts) (rest : List Token) → (more_external (no_parts ws)).parse list ≡ Ok (x, plain_list rest) → length rest ≡ 0 → place_fault (unit_with names texts x, x.annotations.misplaced) ≡ None
+      → IsRead ts (unit_with names texts x)
   read_placed x rest e z m =
-      subst (λ (o : Option Place). Accepts (unit (vocabulary ts) ts.names (texts_of ts.list)) ts.list (unit_with names texts x, o)) m (read_whole x rest e z)
+      let none = no_fault (unit_with names texts x) x.annotations.misplaced m in
+      record {
+        reading = subst (λ (o : Option Place). Accepts (unit (vocabulary ts) ts.names (texts_of ts.list)) ts.list (unit_with names texts x, o)) none.0 (read_whole x rest e z);
+        guarded = none.1;
+      }
 
-  pub read_misplaced : (x : FileParts) (rest : List Token) (at : Place) (e : FrontFault) → (more_external (no_parts ws)).parse list ≡ Ok (x, plain_list rest) → length rest ≡ 0 → x.annotations.misplaced ≡ Some at
-      → RefusesWith (refused_at_place ts misplaced_code at) e → Refuses e ts
-  read_misplaced x rest at front.Memory k z m g = tt
-  read_misplaced x rest at (front.Refused r) k z m g = inr (record {
+  pub read_misplaced : (x : FileParts) (rest : List Token) (f : Fault) (e : FrontFault) → (more_external (no_parts ws)).parse list ≡ Ok (x, plain_list rest) → length rest ≡ 0 → place_fault (unit_with names texts x, x.annotations.misplaced) ≡ Some f
+      → RefusesWith (refused_at_place ts f.code f.place) e → Refuses e ts
+  read_misplaced x rest f front.Memory k z m g = tt
+  read_misplaced x rest f (front.Refused r) k z m g = inr (record {
     tree = unit_with names texts x;
-    place = at;
-    found = subst (λ (o : Option Place). Accepts (unit (vocabulary ts) ts.names (texts_of ts.list)) ts.list (unit_with names texts x, o)) m (read_whole x rest k z);
+    fault = f;
+    found = record { at = x.annotations.misplaced; reading = read_whole x rest k z; is = m };
     is = g;
   })
 

@@ -1,10 +1,10 @@
 -- Statements of each depth, functions and whole texts are read exactly, so tokens are read in one way at most.
 use Rattle.std.proofs.Common.{◌≡◌, ℕ, zero, suc, ◌-◌, Bool, true, false, cond, eqb, List, [], ◌∷◌, Option, None, refl, arith}
 use Rattle.std.proofs.lemmas.Bool.{eqb-true}
-use Rattle.grammar.specs.Syntax.{none, among, choice, deep}
+use Rattle.grammar.specs.Syntax.{none, among, choice}
 use Rattle.grammar.specs.Exact.{AtMostOne, IsGood}
 use Rattle.grammar.proofs.Parts.{widen, none_exact}
-use Rattle.grammar.proofs.Productions.{seq, either, again_and_again, declared, given, same, too_deep, recast}
+use Rattle.grammar.proofs.Productions.{seq, either, again_and_again, declared, given, same, too_deep as below_limit, recast}
 use Rattle.grammar.proofs.Theorem.{at_most_one}
 use Rattle.c_syntax.specs.declared.place.Place.{Place}
 use Rattle.c_syntax.specs.Ctypes.{PlainType}
@@ -21,49 +21,60 @@ use Rattle.c_model.specs.Punctuators.{assign, semicolon, comma, left_paren, left
 use Rattle.c_model.specs.ExpressionGrammar.{annot_open_kind, mark_kind, token_kind, kind, most_nested}
 use Rattle.c_model.specs.Terminals.{nesting_limit}
 use Rattle.c_model.specs.DeclarationGrammar.{first_spec, Declarator, names_function, ended}
-use Rattle.c_model.specs.ProgramGrammar.{first_statement, first_branch, statement_of, branch_of, statement_in, branch_in, inside_in, FileParts, after_contract, contract_taken, awaiting_nothing, with_typedef, no_parts, function_rest}
+use Rattle.c_model.specs.ProgramGrammar.{first_statement, first_branch, nothing, too_deep, statement_in, branch_in, behind_in, inside_in, FileParts, after_contract, contract_taken, awaiting_nothing, with_typedef}
+use Rattle.c_model.specs.ProgramGrammar.{no_parts, function_rest}
 use Rattle.c_model.specs.ProgramGrammar.{function, globals, behind_declarator, declared_at_file, next_typedef, more_typedefs}
 use Rattle.c_model.specs.ProgramGrammar.{typedefs, behind_spec, next_stray, strays, declared_external, external, any_kind, more_external, unit}
 use Rattle.c_expr_parser.proofs.ExactTokens.{IsRead, fixed_good}
 use Rattle.c_expr_parser.proofs.TakenTokens.{word_small}
 use Rattle.c_parser.proofs.Openings.{opens, branch_opens}
 use Rattle.c_declaration_parser.proofs.ExactDeclarations.{first_dtor, more_dtor, ended_good, full_dtor_good, initialised_good, more_declared_good, parameters_good, file_spec_good}
-use Rattle.c_parser.proofs.ExactStatements.{ReadsStatements, ReadsBranches, more_statement, statement_of_good, branch_of_good, items_good}
+use Rattle.c_parser.proofs.ExactStatements.{ReadsStatements, ReadsBranches, ReadsAnnotated, more_statement, loop_of_good, unlooped_good, statement_of_good, branch_of_good, inside_of_good, items_good}
 use Rattle.acsl_parser.proofs.ExactAnnotations.{annotations_good}
 
 module _ (ws : Vocabulary) where
-  none_reads : ReadsStatements ws (λ m. none)
+  none_reads : ReadsStatements ws (nothing ws)
   none_reads k = same (widen (kind ws) none false [] (λ _. []) false first_statement more_statement (none_exact (kind ws)) (λ h. h) refl (λ x. refl))
 
-  no_branch : ReadsBranches ws (λ m. none)
+  no_branch : ReadsBranches ws (nothing ws)
   no_branch k = same (widen (kind ws) none false [] (λ _. []) false first_branch more_statement (none_exact (kind ws)) (λ h. h) refl (λ x. refl))
+
+  nothing_behind : ReadsAnnotated ws (λ x. nothing ws)
+  nothing_behind x = no_branch
 
   record AreGood (d : ℕ) : Type 0 where
     statement : ReadsStatements ws (statement_in ws d)
     branch : ReadsBranches ws (branch_in ws d)
-    inside : ReadsBranches ws (inside_in ws d)
+    behind : ReadsAnnotated ws (behind_in ws d)
+    inside : ReadsAnnotated ws (inside_in ws d)
 
   -- one statement too deep, with an annotation or without
-  deeper : ReadsBranches ws (λ n. deep nesting_limit (kind ws) first_branch (branch_of ws (statement_of ws (λ m. none) (λ m. none) (λ m. none)) (λ m. none) n))
-  deeper k =
-      too_deep nesting_limit first_branch (branch_of_good ws (statement_of_good ws none_reads no_branch no_branch) no_branch k).here (branch_opens ws (λ m. none) (λ m. none) (λ m. none) k)
+  deeper : ReadsBranches ws (too_deep ws)
+  unfolding too_deep
+  deeper k = below_limit nesting_limit first_branch (branch_of_good ws nothing_behind (statement_of_good ws none_reads nothing_behind no_branch) k).here (branch_opens ws (nothing ws) (λ x. nothing ws) (nothing ws) (λ x. nothing ws) k)
 
   at_depth : (d : ℕ) → AreGood d
   unfolding statement_in
   at_depth zero = record {
-    statement = λ k. too_deep nesting_limit first_statement (statement_of_good ws none_reads no_branch no_branch k).here (opens ws (λ m. none) (λ m. none) (λ m. none) k);
+    statement = λ k. below_limit nesting_limit first_statement (statement_of_good ws none_reads nothing_behind no_branch k).here (opens ws (nothing ws) (λ x. nothing ws) (nothing ws) k);
     branch = deeper;
-    inside = deeper;
+    behind = λ x k. deeper _;
+    inside = λ x k. deeper _;
   }
   at_depth (suc d) =
       let h = at_depth d in
       let each = statement_of_good ws h.statement h.inside h.branch in
-      record { statement = each; branch = branch_of_good ws each h.branch; inside = h.branch }
+      record {
+        statement = each;
+        branch = branch_of_good ws h.behind each;
+        behind = inside_of_good ws h.behind (loop_of_good ws h.branch) each (unlooped_good ws h.statement h.inside h.branch);
+        inside = h.behind;
+      }
 
   pub statement_good : (d : ℕ) → ReadsStatements ws (statement_in ws d)
   statement_good d = (at_depth d).statement
 
-  pub inside_good : (d : ℕ) → ReadsBranches ws (inside_in ws d)
+  pub inside_good : (d : ℕ) → ReadsAnnotated ws (inside_in ws d)
   inside_good d = (at_depth d).inside
 
   -- ---- functions and objects

@@ -1,5 +1,5 @@
 -- Annotations and statements are read exactly.
-use Rattle.std.proofs.Common.{◌≡◌, ℕ, Bool, true, false, cond, List, [], ◌∷◌, ◌++◌, None, Some, refl, inl, inr}
+use Rattle.std.proofs.Common.{◌≡◌, ℕ, Bool, true, false, cond, List, [], ◌∷◌, ◌++◌, refl, inl, inr}
 use Rattle.grammar.specs.Syntax.{gives, ◌then◌, choice}
 use Rattle.grammar.specs.Exact.{IsGood}
 use Rattle.grammar.proofs.Sets.{within, apart}
@@ -15,11 +15,12 @@ use Rattle.c_model.specs.Vocabulary.{Vocabulary}
 use Rattle.c_model.specs.Punctuators.{semicolon, colon, left_paren, right_paren, left_brace, right_brace}
 use Rattle.c_model.specs.ExpressionGrammar.{name_kind, annot_open_kind, keyword_kind, mark_kind, kind, first_type, first_expression}
 use Rattle.c_model.specs.declared.operands.Level.TheVariants.{Conditional}
-use Rattle.c_model.specs.ClauseGrammar.{ReadAnnotation}
-use Rattle.c_model.specs.ProgramGrammar.{first_statement, first_branch, first_item, first_case, is_open, Numbered, ReadCase}
+use Rattle.c_syntax.specs.Logic.{Annotation}
+use Rattle.c_model.specs.ClauseGrammar.{ReadAnnotation, Assertions, Contracted, Looped, annotations}
+use Rattle.c_model.specs.ProgramGrammar.{first_loop, first_statement, first_branch, first_item, first_case, is_open, Numbered, Annotated, Looping, ReadCase}
 use Rattle.c_model.specs.ProgramGrammar.{valued_case, default_case, case_label, case_item, case_items_once, case_items, next_case, cases, switch_statement}
-use Rattle.c_model.specs.ProgramGrammar.{misplaced, run_item, behind_annotation, annotated_item, condition, else_branch, else_part, selection, while_loop, do_loop, for_first, maybe_ended, returned, for_behind, for_loop, jump}
-use Rattle.c_model.specs.ProgramGrammar.{return_statement, item, items_once, items, block, empty_statement, effect_statement, effect_behind, labelled_statement, named_statement, statement_of, branch_of}
+use Rattle.c_model.specs.ProgramGrammar.{run_item, behind_annotation, annotated_item, condition, else_branch, else_part, selection, while_loop, do_loop, for_first, maybe_ended, returned, for_behind, for_loop, jump}
+use Rattle.c_model.specs.ProgramGrammar.{return_statement, item, items_once, items, block, empty_statement, effect_statement, effect_behind, labelled_statement, named_statement, loop_of, unlooped_of, statement_of, branch_of, inside_of}
 use Rattle.c_expr_parser.proofs.ExactTokens.{IsRead, fixed_good, name_good}
 use Rattle.c_expr_parser.proofs.ExactTypes.{enlarged}
 use Rattle.acsl_parser.proofs.ExactAnnotations.{annotations_good}
@@ -31,12 +32,6 @@ abbrev behind_first_name : List ℕ
 behind_first_name = more_operand ++ placed_rest_kinds ++ mark_kind semicolon ∷ []
 
 module _ (ws : Vocabulary) where
-  -- ---- annotations
-
-  pub misplaced_good : (n : AnnotationState) → IsRead ws (misplaced ws n) false (annot_open_kind ∷ []) []
-  unfolding misplaced
-  misplaced_good n = declared (seq (annotations_good ws n.number) (λ x. given _) refl) refl
-
   -- ---- parts of statements
 
   condition_good : IsRead ws (condition ws) false (mark_kind left_paren ∷ []) []
@@ -120,23 +115,28 @@ ReadsStatements ws T = (k : AnnotationState) → IsGood (kind ws) 0 (T k) (T k) 
 abbrev pub ReadsBranches : Vocabulary → Numbered → Type 0
 ReadsBranches ws S = (k : AnnotationState) → IsGood (kind ws) 0 (S k) (S k) false first_branch more_statement
 
+-- what stands inside one behind an annotation is read exactly
+abbrev pub ReadsAnnotated : Vocabulary → Annotated → Type 0
+ReadsAnnotated ws A = (x : ReadAnnotation × ℕ) → ReadsBranches ws (A x)
+
 module _ (ws : Vocabulary) where
   -- a statement of either sort as an item
   run_good : (T : Numbered) (first : List ℕ) (k : AnnotationState) → IsGood (kind ws) 0 (T k) (T k) false first more_statement → IsRead ws (run_item ws T k) false first an_else
   unfolding run_item
   run_good T first k t = made {more = λ _. an_else} (λ x. (Run x.0, x.1)) t (λ x. within_else (is_open x.0))
 
-module _ (ws : Vocabulary) {B : Numbered} (b : ReadsBranches ws B) where
+module _ (ws : Vocabulary) {B : Annotated} (b : ReadsAnnotated ws B) where
   behind_good : (k : AnnotationState) (x : ReadAnnotation × ℕ) → IsRead ws (behind_annotation ws B k x) true first_branch an_else
   unfolding behind_annotation
-  behind_good k ((a, None), n) = declared (given _) refl
-  behind_good k ((a, Some c), n) = declared (run_good ws B first_branch _ (b _)) refl
+  behind_good k (Assertions asserts, n) = declared (given _) refl
+  behind_good k (Contracted c, n) = declared (run_good ws (B (Contracted c, n)) first_branch k (b (Contracted c, n) k)) refl
+  behind_good k (Looped l, n) = declared (run_good ws (B (Looped l, n)) first_branch k (b (Looped l, n) k)) refl
 
   annotated_good : (k : AnnotationState) → IsRead ws (annotated_item ws B k) false (annot_open_kind ∷ []) an_else
   unfolding annotated_item
   annotated_good k = declared (seq (annotations_good ws k.number) (behind_good k) refl) refl
 
-module _ (ws : Vocabulary) {T B : Numbered} (t : ReadsStatements ws T) (b : ReadsBranches ws B) where
+module _ (ws : Vocabulary) {T : Numbered} {B : Annotated} (t : ReadsStatements ws T) (b : ReadsAnnotated ws B) where
   item_good : (k : AnnotationState) → IsRead ws (item ws T B k) false first_item an_else
   unfolding item
   item_good k =
@@ -171,7 +171,7 @@ module _ (ws : Vocabulary) where
   unfolding case_label
   case_label_good = declared (either (keyword_kind keyword.Case ∷ []) valued_case_good default_case_good refl) refl
 
-module _ (ws : Vocabulary) {T B : Numbered} (t : ReadsStatements ws T) (b : ReadsBranches ws B) where
+module _ (ws : Vocabulary) {T : Numbered} {B : Annotated} (t : ReadsStatements ws T) (b : ReadsAnnotated ws B) where
   case_item_good : (k : AnnotationState) → IsRead ws (case_item ws T B k) false first_branch an_else
   unfolding case_item
   case_item_good k = declared (either (annot_open_kind ∷ []) (annotated_good ws b k) (run_good ws T first_statement k (t k)) refl) refl
@@ -234,9 +234,9 @@ module _ (ws : Vocabulary) {S : Numbered} (s : ReadsBranches ws S) where
   unfolding selection
   selection_good k = seq_to (fixed_good ws (keyword_kind keyword.If)) (λ at. seq_to (condition_good ws) (λ e. branches_good at e k) refl) refl
 
-  while_good : (k : AnnotationState) → IsGood (kind ws) 0 (while_loop ws S k) (while_loop ws S k) false (keyword_kind keyword.While ∷ []) more_statement
+  while_good : (annots : List Annotation) (k : AnnotationState) → IsGood (kind ws) 0 (while_loop ws S annots k) (while_loop ws S annots k) false (keyword_kind keyword.While ∷ []) more_statement
   unfolding while_loop
-  while_good k = seq_to (fixed_good ws (keyword_kind keyword.While)) (λ at. seq_to (condition_good ws) (λ e. made (λ x. (While at [] e x.0, x.1)) (s k) (λ x. within_same (is_open x.0))) refl) refl
+  while_good annots k = seq_to (fixed_good ws (keyword_kind keyword.While)) (λ at. seq_to (condition_good ws) (λ e. made (λ x. (While at annots e x.0, x.1)) (s k) (λ x. within_same (is_open x.0))) refl) refl
 
   do_good : (k : AnnotationState) → IsRead ws (do_loop ws S k) false (keyword_kind keyword.Do ∷ []) []
   unfolding do_loop
@@ -244,11 +244,11 @@ module _ (ws : Vocabulary) {S : Numbered} (s : ReadsBranches ws S) where
       declared (seq (fixed_good ws (keyword_kind keyword.Do)) (λ at. seq (enlarged ws first_branch an_else (s k) refl (λ x. within_else (is_open x.0))) (λ x.
       seq (fixed_good ws (keyword_kind keyword.While)) (λ _. seq (condition_good ws) (λ e. ended_good ws _) refl) refl) refl) refl) refl
 
-  for_good : (k : AnnotationState) → IsGood (kind ws) 0 (for_loop ws S k) (for_loop ws S k) false (keyword_kind keyword.For ∷ []) more_statement
+  for_good : (annots : List Annotation) (k : AnnotationState) → IsGood (kind ws) 0 (for_loop ws S annots k) (for_loop ws S annots k) false (keyword_kind keyword.For ∷ []) more_statement
   unfolding for_loop
-  for_good k =
+  for_good annots k =
       seq_to (fixed_good ws (keyword_kind keyword.For)) (λ at. seq_to (fixed_good ws (mark_kind left_paren)) (λ _. seq_to (for_first_good ws k) (λ first.
-      seq_to (maybe_ended_good ws) (λ e. seq_to (for_behind_good ws) (λ behind. made (λ x. (For at [] first.0 e behind x.0, x.1)) (s first.1) (λ x. within_same (is_open x.0))) refl) refl) refl) refl) refl
+      seq_to (maybe_ended_good ws) (λ e. seq_to (for_behind_good ws) (λ behind. made (λ x. (For at annots first.0 e behind x.0, x.1)) (s first.1) (λ x. within_same (is_open x.0))) refl) refl) refl) refl) refl
 
   labelled_good : (x : ℕ × Place) (k : AnnotationState) → IsGood (kind ws) 0 (labelled_statement ws S x k) (labelled_statement ws S x k) false (mark_kind colon ∷ []) more_statement
   unfolding labelled_statement
@@ -263,36 +263,59 @@ module _ (ws : Vocabulary) {S : Numbered} (s : ReadsBranches ws S) where
 abbrev jumps : List ℕ
 jumps = keyword_kind keyword.Break ∷ keyword_kind keyword.Continue ∷ []
 
--- what begins a statement that is tried after the loops
-abbrev behind_loops : List ℕ
-behind_loops = keyword_kind keyword.Switch ∷ keyword_kind keyword.Return ∷ jumps ++ first_expression
+-- what begins a statement that is no loop to which annotations may belong
+abbrev pub first_unlooped : List ℕ
+first_unlooped =
+    mark_kind left_brace ∷ mark_kind semicolon ∷ keyword_kind keyword.If ∷ keyword_kind keyword.Do ∷ keyword_kind keyword.Switch ∷ keyword_kind keyword.Return ∷ jumps ++ first_expression
 
-module _ (ws : Vocabulary) {T B S : Numbered} (t : ReadsStatements ws T) (b : ReadsBranches ws B) (s : ReadsBranches ws S) where
-  pub statement_of_good : (k : AnnotationState) → IsGood (kind ws) 0 (statement_of ws T B S k) (statement_of ws T B S k) false first_statement more_statement
-  unfolding statement_of
-  statement_of_good k =
+module _ (ws : Vocabulary) {S : Numbered} (s : ReadsBranches ws S) where
+  pub loop_of_good : (annots : List Annotation) (k : AnnotationState) → IsGood (kind ws) 0 (loop_of ws S annots k) (loop_of ws S annots k) false first_loop more_statement
+  unfolding loop_of
+  loop_of_good annots k =
+      either_to (keyword_kind keyword.While ∷ []) (while_good ws s annots k) (for_good ws s annots k) refl (λ x. within_same (is_open x.0)) (λ x. within_same (is_open x.0))
+
+module _ (ws : Vocabulary) {T S : Numbered} {B : Annotated} (t : ReadsStatements ws T) (b : ReadsAnnotated ws B) (s : ReadsBranches ws S) where
+  pub unlooped_good : (k : AnnotationState) → IsGood (kind ws) 0 (unlooped_of ws T B S k) (unlooped_of ws T B S k) false first_unlooped more_statement
+  unfolding unlooped_of
+  unlooped_good k =
       either_to (mark_kind left_brace ∷ []) (block_good ws t b k)
-      (either_to (mark_kind semicolon ∷ []) {first = mark_kind semicolon ∷ keyword_kind keyword.If ∷ keyword_kind keyword.While ∷ keyword_kind keyword.Do ∷ keyword_kind keyword.For ∷ behind_loops} (empty_good ws k)
-      (either_to (keyword_kind keyword.If ∷ []) {first = keyword_kind keyword.If ∷ keyword_kind keyword.While ∷ keyword_kind keyword.Do ∷ keyword_kind keyword.For ∷ behind_loops} (selection_good ws s k)
-      (either_to (keyword_kind keyword.While ∷ []) {first = keyword_kind keyword.While ∷ keyword_kind keyword.Do ∷ keyword_kind keyword.For ∷ behind_loops} (while_good ws s k)
-      (either_to (keyword_kind keyword.Do ∷ []) {first = keyword_kind keyword.Do ∷ keyword_kind keyword.For ∷ behind_loops} (do_good ws s k)
-      (either_to (keyword_kind keyword.For ∷ []) {first = keyword_kind keyword.For ∷ behind_loops} (for_good ws s k)
-      (either_to (keyword_kind keyword.Switch ∷ []) {first = behind_loops} (switch_good ws t b k)
+      (either_to (mark_kind semicolon ∷ []) {first = mark_kind semicolon ∷ keyword_kind keyword.If ∷ keyword_kind keyword.Do ∷ keyword_kind keyword.Switch ∷ keyword_kind keyword.Return ∷ jumps ++ first_expression} (empty_good ws k)
+      (either_to (keyword_kind keyword.If ∷ []) {first = keyword_kind keyword.If ∷ keyword_kind keyword.Do ∷ keyword_kind keyword.Switch ∷ keyword_kind keyword.Return ∷ jumps ++ first_expression} (selection_good ws s k)
+      (either_to (keyword_kind keyword.Do ∷ []) {first = keyword_kind keyword.Do ∷ keyword_kind keyword.Switch ∷ keyword_kind keyword.Return ∷ jumps ++ first_expression} (do_good ws s k)
+      (either_to (keyword_kind keyword.Switch ∷ []) {first = keyword_kind keyword.Switch ∷ keyword_kind keyword.Return ∷ jumps ++ first_expression} (switch_good ws t b k)
       (either_to (keyword_kind keyword.Return ∷ []) {first = keyword_kind keyword.Return ∷ jumps ++ first_expression} (return_good ws k)
       (either_to jumps {first = jumps ++ first_expression} {more = more_statement} (jump_good ws k)
       (either_to (name_kind ∷ []) {first = first_expression} {more = more_statement} (named_good ws s k) (effect_good ws k) refl (λ x. within_same (is_open x.0)) (λ x. refl))
       refl (λ x. refl) (λ x. within_same (is_open x.0)))
       refl (λ x. refl) (λ x. within_same (is_open x.0)))
       refl (λ x. refl) (λ x. within_same (is_open x.0)))
-      refl (λ x. within_same (is_open x.0)) (λ x. within_same (is_open x.0)))
       refl (λ x. refl) (λ x. within_same (is_open x.0)))
-      refl (λ x. within_same (is_open x.0)) (λ x. within_same (is_open x.0)))
       refl (λ x. within_same (is_open x.0)) (λ x. within_same (is_open x.0)))
       refl (λ x. refl) (λ x. within_same (is_open x.0)))
       refl (λ x. refl) (λ x. within_same (is_open x.0))
 
-module _ (ws : Vocabulary) {T S : Numbered} (t : ReadsStatements ws T) (s : ReadsBranches ws S) where
-  pub branch_of_good : (k : AnnotationState) → IsGood (kind ws) 0 (branch_of ws T S k) (branch_of ws T S k) false first_branch more_statement
+  pub statement_of_good : (k : AnnotationState) → IsGood (kind ws) 0 (statement_of ws T B S k) (statement_of ws T B S k) false first_statement more_statement
+  unfolding statement_of
+  statement_of_good k = either_to first_loop (loop_of_good ws s [] k) (unlooped_good k) refl (λ x. within_same (is_open x.0)) (λ x. within_same (is_open x.0))
+
+module _ (ws : Vocabulary) {A : Annotated} (a : ReadsAnnotated ws A) where
+  annotated_branch_good : (k : AnnotationState) → IsGood (kind ws) 0 (annotations ws k.number then λ x. A x k) (annotations ws k.number then λ x. A x k) false (annot_open_kind ∷ []) more_statement
+  annotated_branch_good k = seq_to (annotations_good ws k.number) (λ x. a x k) refl
+
+  pub branch_of_good : {T : Numbered} → ReadsStatements ws T → (k : AnnotationState) → IsGood (kind ws) 0 (branch_of ws T A k) (branch_of ws T A k) false first_branch more_statement
   unfolding branch_of
-  branch_of_good k =
-      either_to (annot_open_kind ∷ []) (seq_to (misplaced_good ws k) s refl) (t k) refl (λ x. within_same (is_open x.0)) (λ x. within_same (is_open x.0))
+  branch_of_good t k = either_to (annot_open_kind ∷ []) (annotated_branch_good k) (t k) refl (λ x. within_same (is_open x.0)) (λ x. within_same (is_open x.0))
+
+  -- a branch that is no loop
+  unlooped_branch_good : {U : Numbered} → ((k : AnnotationState) → IsGood (kind ws) 0 (U k) (U k) false first_unlooped more_statement) → (k : AnnotationState)
+      → IsGood (kind ws) 0 (branch_of ws U A k) (branch_of ws U A k) false (annot_open_kind ∷ first_unlooped) more_statement
+  unfolding branch_of
+  unlooped_branch_good u k = either_to (annot_open_kind ∷ []) (annotated_branch_good k) (u k) refl (λ x. within_same (is_open x.0)) (λ x. within_same (is_open x.0))
+
+  module _ {W : Looping} {T U : Numbered} (w : (annots : List Annotation) (k : AnnotationState) → IsGood (kind ws) 0 (W annots k) (W annots k) false first_loop more_statement) (t : ReadsStatements ws T)
+      (u : (k : AnnotationState) → IsGood (kind ws) 0 (U k) (U k) false first_unlooped more_statement) where
+    pub inside_of_good : ReadsAnnotated ws (inside_of ws W T U A)
+    unfolding inside_of
+    inside_of_good (Assertions asserts, n) k = branch_of_good t _
+    inside_of_good (Contracted c, n) k = branch_of_good t _
+    inside_of_good (Looped l, n) k = either_to first_loop (w l.clauses _) (unlooped_branch_good u _) refl (λ x. within_same (is_open x.0)) (λ x. within_same (is_open x.0))

@@ -3,6 +3,7 @@ pub mod Openings
 pub mod ExactStatements
 pub mod ExactPrograms
 -- what a production gives, step by step
+pub mod PlaceFaults
 pub mod Rows
 pub mod Contracted
 pub mod FirstItems

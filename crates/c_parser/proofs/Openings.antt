@@ -10,8 +10,8 @@ use Rattle.c_model.specs.Vocabulary.{Vocabulary}
 use Rattle.c_model.specs.Punctuators.{semicolon, left_brace, increment, decrement, plus, minus, exclamation, tilde, times, ampersand, left_paren}
 use Rattle.c_model.specs.ExpressionGrammar.{name_kind, number_kind, letter_kind, text_kind, annot_open_kind, keyword_kind, mark_kind, kind, first_expression, name}
 use Rattle.c_model.specs.ClauseGrammar.{annotations}
-use Rattle.c_model.specs.ProgramGrammar.{first_statement, first_branch, Numbered, misplaced, block, empty_statement, selection, while_loop, do_loop, for_loop, switch_statement, return_statement, jump, effect_statement, named_statement}
-use Rattle.c_model.specs.ProgramGrammar.{statement_of, branch_of}
+use Rattle.c_model.specs.ProgramGrammar.{first_statement, first_branch, Numbered, Annotated, block, empty_statement, selection, while_loop, do_loop, for_loop, switch_statement, return_statement, jump, effect_statement, named_statement}
+use Rattle.c_model.specs.ProgramGrammar.{loop_of, unlooped_of, statement_of, branch_of}
 use Rattle.c_expr_parser.proofs.ExactExpressions.{first_but_name}
 use Rattle.c_expr_parser.proofs.SolidExpressions.{nameless_begins}
 use Rattle.c_expr_parser.proofs.TakenTokens.{name_solid}
@@ -46,21 +46,21 @@ module _ (ws : Vocabulary) where
       tested true e = inl (inl (name_begins t e))
       tested false e = inr (inl (nameless_begins ws t (but_name (kind ws t) e h)))
 
-  pub opens : (T B S : Numbered) (n : AnnotationState) (t : PlainToken) → among (kind ws t) first_statement ≡ true → (statement_of ws T B S n).begun (t ∷ [])
-  unfolding statement_of block empty_statement selection while_loop do_loop for_loop switch_statement return_statement jump
+  pub opens : (T : Numbered) (B : Annotated) (S : Numbered) (n : AnnotationState) (t : PlainToken) → among (kind ws t) first_statement ≡ true → (statement_of ws T B S n).begun (t ∷ [])
+  unfolding statement_of loop_of unlooped_of block empty_statement selection while_loop do_loop for_loop switch_statement return_statement jump
   opens T B S n t =
-      first_or _ (kind ws t) (mark_kind left_brace) _ (λ h. inl (inl (fixed_begins ws (mark_kind left_brace) t h)))
-      (first_or _ (kind ws t) (mark_kind semicolon) _ (λ h. inr (inl (inl (fixed_begins ws (mark_kind semicolon) t h))))
-      (first_or _ (kind ws t) (keyword_kind keyword.If) _ (λ h. inr (inr (inl (inl (fixed_begins ws (keyword_kind keyword.If) t h)))))
-      (first_or _ (kind ws t) (keyword_kind keyword.While) _ (λ h. inr (inr (inr (inl (inl (fixed_begins ws (keyword_kind keyword.While) t h))))))
+      first_or _ (kind ws t) (mark_kind left_brace) _ (λ h. inr (inl (inl (fixed_begins ws (mark_kind left_brace) t h))))
+      (first_or _ (kind ws t) (mark_kind semicolon) _ (λ h. inr (inr (inl (inl (fixed_begins ws (mark_kind semicolon) t h)))))
+      (first_or _ (kind ws t) (keyword_kind keyword.If) _ (λ h. inr (inr (inr (inl (inl (fixed_begins ws (keyword_kind keyword.If) t h))))))
+      (first_or _ (kind ws t) (keyword_kind keyword.While) _ (λ h. inl (inl (inl (fixed_begins ws (keyword_kind keyword.While) t h))))
       (first_or _ (kind ws t) (keyword_kind keyword.Do) _ (λ h. inr (inr (inr (inr (inl (inl (fixed_begins ws (keyword_kind keyword.Do) t h)))))))
-      (first_or _ (kind ws t) (keyword_kind keyword.For) _ (λ h. inr (inr (inr (inr (inr (inl (inl (fixed_begins ws (keyword_kind keyword.For) t h))))))))
-      (first_or _ (kind ws t) (keyword_kind keyword.Switch) _ (λ h. inr (inr (inr (inr (inr (inr (inl (inl (fixed_begins ws (keyword_kind keyword.Switch) t h)))))))))
-      (first_or _ (kind ws t) (keyword_kind keyword.Break) _ (λ h. inr (inr (inr (inr (inr (inr (inr (inr (inl (inl (inl (fixed_begins ws (keyword_kind keyword.Break) t h))))))))))))
-      (first_or _ (kind ws t) (keyword_kind keyword.Continue) _ (λ h. inr (inr (inr (inr (inr (inr (inr (inr (inl (inr (inl (fixed_begins ws (keyword_kind keyword.Continue) t h))))))))))))
-      (first_or _ (kind ws t) (keyword_kind keyword.Return) _ (λ h. inr (inr (inr (inr (inr (inr (inr (inl (inl (fixed_begins ws (keyword_kind keyword.Return) t h))))))))))
-      (λ h. inr (inr (inr (inr (inr (inr (inr (inr (inr (effect_opens S n t h)))))))))))))))))))
+      (first_or _ (kind ws t) (keyword_kind keyword.For) _ (λ h. inl (inr (inl (fixed_begins ws (keyword_kind keyword.For) t h))))
+      (first_or _ (kind ws t) (keyword_kind keyword.Switch) _ (λ h. inr (inr (inr (inr (inr (inl (inl (fixed_begins ws (keyword_kind keyword.Switch) t h))))))))
+      (first_or _ (kind ws t) (keyword_kind keyword.Break) _ (λ h. inr (inr (inr (inr (inr (inr (inr (inl (inl (inl (fixed_begins ws (keyword_kind keyword.Break) t h)))))))))))
+      (first_or _ (kind ws t) (keyword_kind keyword.Continue) _ (λ h. inr (inr (inr (inr (inr (inr (inr (inl (inr (inl (fixed_begins ws (keyword_kind keyword.Continue) t h)))))))))))
+      (first_or _ (kind ws t) (keyword_kind keyword.Return) _ (λ h. inr (inr (inr (inr (inr (inr (inl (inl (fixed_begins ws (keyword_kind keyword.Return) t h)))))))))
+      (λ h. inr (inr (inr (inr (inr (inr (inr (inr (effect_opens S n t h))))))))))))))))))
 
-  pub branch_opens : (T B S : Numbered) (n : AnnotationState) (t : PlainToken) → among (kind ws t) first_branch ≡ true → (branch_of ws (statement_of ws T B S) S n).begun (t ∷ [])
-  unfolding branch_of misplaced annotations
-  branch_opens T B S n t = first_or _ (kind ws t) annot_open_kind _ (λ h. inl (inl (inl (inl (fixed_begins ws annot_open_kind t h))))) (λ h. inr (opens T B S n t h))
+  pub branch_opens : (T : Numbered) (B : Annotated) (S : Numbered) (A : Annotated) (n : AnnotationState) (t : PlainToken) → among (kind ws t) first_branch ≡ true → (branch_of ws (statement_of ws T B S) A n).begun (t ∷ [])
+  unfolding branch_of annotations
+  branch_opens T B S A n t = first_or _ (kind ws t) annot_open_kind _ (λ h. inl (inl (inl (fixed_begins ws annot_open_kind t h)))) (λ h. inr (opens T B S n t h))

@@ -9,7 +9,12 @@ use Rattle.c_model.specs.declared.declarations.AnnotationState.{AnnotationState}
 use Rattle.c_model.specs.Vocabulary.{Vocabulary}
 use Rattle.c_model.specs.ExpressionGrammar.{kind}
 use Rattle.c_model.specs.Terminals.{nesting_limit}
-use Rattle.c_model.specs.ProgramGrammar.{first_statement, first_branch, first_item, first_case, ReadCase, items_once, items, case_items_once, case_items, next_case, cases, statement_of, branch_of, statement_in, branch_in, inside_in}
+use Rattle.c_model.specs.ProgramGrammar.{first_loop, first_statement, first_branch, first_item, first_case, after_misplaced, after_loop, ReadCase, items_once, items, case_items_once, case_items, next_case, cases, loop_of, statement_of}
+use Rattle.c_model.specs.ProgramGrammar.{branch_of, inside_of, too_deep, statement_in, branch_in, behind_in, inside_in}
+use Rattle.c_syntax.specs.Logic.{Annotation}
+use Rattle.c_syntax.specs.Programs.{FunctionContract}
+use Rattle.c_model.specs.ClauseGrammar.{LoopClauses, ReadAnnotation, Assertions, Contracted, Looped}
+use Rattle.c_parser.specs.Reading.{deep_fault}
 use Rattle.c_syntax.specs.declared.fault.ReadFault.{ReadFault}
 use Rattle.token_reader.specs.Reading.{plain_list, Fails}
 use Rattle.token_reader.proofs.Faults.{again}
@@ -35,36 +40,55 @@ module _ (ws : Vocabulary) where
   statement_at zero n ts h s = rw s refl
   statement_at (suc d) n ts h s = absurd (omega arith)
 
-  pub branch_is : (d : ℕ) (n : AnnotationState) (ts : List PlainToken) → 0 < d → (branch_in ws d n).parse ts ≡ (branch_of ws (statement_in ws d) (branch_in ws (d - 1)) n).parse ts
+  pub branch_is : (d : ℕ) (n : AnnotationState) (ts : List PlainToken) → 0 < d → (branch_in ws d n).parse ts ≡ (branch_of ws (statement_in ws d) (behind_in ws (d - 1)) n).parse ts
   unfolding branch_of statement_in
   branch_is zero n ts h = absurd (omega arith)
   branch_is (suc d) n ts h = let e : suc d - 1 ≡ d = omega arith in rw e refl
 
-  pub branch_over : (d : ℕ) (n : AnnotationState) (ts : List PlainToken) → d ≡ 0 → sees (kind ws) first_branch ts ≡ true → (branch_in ws d n).parse ts ≡ Err (Over nesting_limit (length ts))
-  unfolding statement_in
-  branch_over zero n ts h s = rw s refl
-  branch_over (suc d) n ts h s = absurd (omega arith)
+  pub branch_deep : (d : ℕ) (n : AnnotationState) (ts : List PlainToken) → d ≡ 0 → (branch_in ws d n).parse ts ≡ deep_fault ws ts
+  unfolding statement_in too_deep
+  branch_deep zero n ts h = refl
+  branch_deep (suc d) n ts h = absurd (omega arith)
 
-  pub branch_at : (d : ℕ) (n : AnnotationState) (ts : List PlainToken) → d ≡ 0 → sees (kind ws) first_branch ts ≡ false → (branch_in ws d n).parse ts ≡ Err (At (length ts))
-  unfolding statement_in
-  branch_at zero n ts h s = rw s refl
-  branch_at (suc d) n ts h s = absurd (omega arith)
+  -- what stands behind an annotation: a loop behind its clauses, or a branch
+  pub behind_asserts : (d : ℕ) (asserts : List Annotation) (m : ℕ) (n : AnnotationState) (ts : List PlainToken) → (d ≡ 0 → ⊥)
+      → (behind_in ws d (Assertions asserts, m) n).parse ts ≡ (branch_in ws d (after_misplaced n (Assertions asserts, m))).parse ts
+  unfolding statement_in inside_of
+  behind_asserts zero asserts m n ts h = absurd (h refl)
+  behind_asserts (suc d) asserts m n ts h = refl
+
+  pub behind_contract : (d : ℕ) (c : FunctionContract) (m : ℕ) (n : AnnotationState) (ts : List PlainToken) → (d ≡ 0 → ⊥) → (behind_in ws d (Contracted c, m) n).parse ts ≡ (branch_in ws d (after_misplaced n (Contracted c, m))).parse ts
+  unfolding statement_in inside_of
+  behind_contract zero c m n ts h = absurd (h refl)
+  behind_contract (suc d) c m n ts h = refl
+
+  pub behind_loop_is : (d : ℕ) (l : LoopClauses) (m : ℕ) (n : AnnotationState) (ts : List PlainToken) → 0 < d → sees (kind ws) first_loop ts ≡ true
+      → (behind_in ws d (Looped l, m) n).parse ts ≡ (loop_of ws (branch_in ws (d - 1)) l.clauses (after_loop n l m)).parse ts
+  unfolding statement_in inside_of
+  behind_loop_is zero l m n ts h s = absurd (omega arith)
+  behind_loop_is (suc d) l m n ts h s = let e : suc d - 1 ≡ d = omega arith in rw (e, s) refl
+
+  pub behind_no_loop : (d : ℕ) (l : LoopClauses) (m : ℕ) (n : AnnotationState) (ts : List PlainToken) → 0 < d → sees (kind ws) first_loop ts ≡ false
+      → (behind_in ws d (Looped l, m) n).parse ts ≡ (branch_in ws d (after_misplaced n (Looped l, m))).parse ts
+  unfolding statement_in inside_of branch_of statement_of
+  behind_no_loop zero l m n ts h s = absurd (omega arith)
+  behind_no_loop (suc d) l m n ts h s = rw s refl
+
+  pub behind_deep : (d : ℕ) (x : ReadAnnotation × ℕ) (n : AnnotationState) (ts : List PlainToken) → d ≡ 0 → (behind_in ws d x n).parse ts ≡ deep_fault ws ts
+  unfolding statement_in too_deep
+  behind_deep zero x n ts h = refl
+  behind_deep (suc d) x n ts h = absurd (omega arith)
 
   -- what stands inside a statement of that depth, where an annotation begins it
-  pub inside_is : (d : ℕ) (n : AnnotationState) (ts : List PlainToken) → 0 < d → (inside_in ws d n).parse ts ≡ (branch_in ws (d - 1) n).parse ts
+  pub inside_is : (d : ℕ) (x : ReadAnnotation × ℕ) (n : AnnotationState) (ts : List PlainToken) → (d ≡ 0 → ⊥) → (inside_in ws d x n).parse ts ≡ (behind_in ws (d - 1) x n).parse ts
   unfolding statement_in
-  inside_is zero n ts h = absurd (omega arith)
-  inside_is (suc d) n ts h = let e : suc d - 1 ≡ d = omega arith in rw e refl
+  inside_is zero x n ts h = absurd (h refl)
+  inside_is (suc d) x n ts h = let e : suc d - 1 ≡ d = omega arith in rw e refl
 
-  pub inside_over : (d : ℕ) (n : AnnotationState) (ts : List PlainToken) → d ≡ 0 → sees (kind ws) first_branch ts ≡ true → (inside_in ws d n).parse ts ≡ Err (Over nesting_limit (length ts))
-  unfolding statement_in
-  inside_over zero n ts h s = rw s refl
-  inside_over (suc d) n ts h s = absurd (omega arith)
-
-  pub inside_at : (d : ℕ) (n : AnnotationState) (ts : List PlainToken) → d ≡ 0 → sees (kind ws) first_branch ts ≡ false → (inside_in ws d n).parse ts ≡ Err (At (length ts))
-  unfolding statement_in
-  inside_at zero n ts h s = rw s refl
-  inside_at (suc d) n ts h s = absurd (omega arith)
+  pub inside_deep : (d : ℕ) (x : ReadAnnotation × ℕ) (n : AnnotationState) (ts : List PlainToken) → d ≡ 0 → (inside_in ws d x n).parse ts ≡ deep_fault ws ts
+  unfolding statement_in too_deep
+  inside_deep zero x n ts h = refl
+  inside_deep (suc d) x n ts h = absurd (omega arith)
 
 -- ---- a turn of a repetition: one more, a fault, and none
 
@@ -133,6 +157,10 @@ pub ruleset items_rules = (items_turn, items_fails, items_ends, items_shorter)
 
 pub ruleset statement_rules = (statement_is, statement_over, statement_at)
 
-pub ruleset branch_rules = (branch_is, branch_over, branch_at)
+pub ruleset branch_rules = (branch_is, branch_deep)
 
-pub ruleset inside_rules = (inside_is, inside_over, inside_at)
+pub ruleset behind_rules = (behind_asserts, behind_contract, behind_deep)
+
+pub ruleset behind_loop_rules = (behind_loop_is, behind_no_loop)
+
+pub ruleset inside_rules = (inside_is, inside_deep)

@@ -3,13 +3,16 @@
 use Rattle.std.specs.Prelude.{◌≡◌, ◌⊎◌}
 use Rattle.grammar.specs.Syntax.{ParseFault}
 use Rattle.c_syntax.specs.Tokens.{PlainTokens}
-use Rattle.c_syntax.specs.RefusalCodes.{misplaced_code}
-use Rattle.c_syntax.specs.declared.place.Place.{Place}
 use Rattle.c_syntax.specs.Programs.{TranslationUnit, PlainRefusal, plain_refusal}
 use Rattle.c_syntax.specs.declared.refusal.FrontFault.{FrontFault}
 use Rattle.c_syntax.specs.declared.refusal.FrontFault.TheVariants as front
+use Rattle.c_parser.specs.declared.fault.PlaceFault.{PlaceFault}
+use Rattle.c_model.specs.Checked.{Fault}
 use Rattle.c_model.specs.Phases.{IsSyntaxFault, IsMisplaced}
 use Rattle.c_model.specs.TokenWords.{syntax_refusal, refused_at_place}
+
+abbrev pub plain_fault : PlaceFault → Fault
+plain_fault f = record { code = f.code; place = f.place }
 
 -- The tokens are refused by the grammar: they are no program, and the refusal names the first token that can't follow
 -- those before it (E4) or that passes a limit (E11).
@@ -18,12 +21,13 @@ pub record IsGrammarRefusal (ts : PlainTokens) (r : PlainRefusal) : Type 0 where
   pub found : IsSyntaxFault ts fault
   pub is : r ≡ syntax_refusal ts fault
 
--- The tokens are a program, in which an annotation stands where none of its kind may; the refusal names the first word of the first (E7).
+-- The tokens are a program, in which an annotation stands where none of its kind may, or a variant behind another one of its loop, or a quantifier
+-- without a guard; the refusal names the first word of the annotation or of the variant (E7), or the quantifier (E8), whichever stands first.
 pub record IsPlaceRefusal (ts : PlainTokens) (r : PlainRefusal) : Type 0 where
   pub tree : TranslationUnit
-  pub place : Place
-  pub found : IsMisplaced ts tree place
-  pub is : r ≡ refused_at_place ts misplaced_code place
+  pub fault : Fault
+  pub found : IsMisplaced ts tree fault
+  pub is : r ≡ refused_at_place ts fault.code fault.place
 
 -- nothing is said when memory ran out
 abbrev pub Refuses : FrontFault → PlainTokens → Type 0

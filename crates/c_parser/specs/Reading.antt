@@ -1,7 +1,8 @@
 -- Ours: productions of C99 6.8 and 6.9 (c_model/specs/ProgramGrammar), cut as the code reads them.
 -- Parts of productions that functions of their own read, and the plain forms of what is read in parts.
-use Rattle.std.specs.Prelude.{ℕ, ◌-◌, [], ◌∷◌, map, Option, Some, None, option_map}
-use Rattle.grammar.specs.Syntax.{Syntax, gives, ◌then◌, many}
+use Rattle.std.specs.Prelude.{ℕ, ◌-◌, cond, List, [], ◌∷◌, length, map, Result, Err, Option, Some, None, option_map}
+use Rattle.grammar.specs.Syntax.{Syntax, ParseFault, At, Over, sees, gives, ◌then◌, many}
+use Rattle.c_model.specs.Terminals.{nesting_limit}
 use Rattle.c_syntax.specs.declared.place.Place.{Place}
 use Rattle.c_syntax.specs.Ctypes.{PlainType}
 use Rattle.c_syntax.specs.Tokens.{PlainToken}
@@ -19,8 +20,9 @@ use Rattle.c_parser.specs.declared.program.FileParts as code_parts
 use Rattle.c_model.specs.Punctuators.{comma, left_paren, left_brace, right_brace}
 use Rattle.c_model.specs.ExpressionGrammar.{annot_open_kind, kind, mark, reserved, mark_kind, most_nested, pointers, full_placed_expression}
 use Rattle.c_model.specs.DeclarationGrammar.{Declarator, parameters}
-use Rattle.c_model.specs.ClauseGrammar.{ReadAnnotation}
-use Rattle.c_model.specs.ProgramGrammar.{FileParts, Numbered, ReadCase, block_items, first_misplaced, after_placed, after_misplaced}
+use Rattle.c_syntax.specs.Logic.{Annotation}
+use Rattle.c_model.specs.ClauseGrammar.{ReadAnnotation, Assertions, Contracted, Looped}
+use Rattle.c_model.specs.ProgramGrammar.{first_branch, FileParts, Numbered, ReadCase, block_items, first_misplaced, after_placed, after_misplaced}
 use Rattle.c_model.specs.ProgramGrammar.{for_first, maybe_ended, for_behind, items, statement_in, inside_in, function_rest, next_typedef, next_stray}
 use Rattle.c_declaration_parser.specs.Reading.{plain_definitions}
 pub use Rattle.c_model.specs.DeclarationGrammar.{ended}
@@ -32,14 +34,18 @@ pub record ForHeading : Type 0 where
   pub condition : Option Expression
   pub step : Option Expression
 
-abbrev pub for_with : ForHeading → Statement → Statement
-for_with h body = For h.place [] h.first h.condition h.step body
+abbrev pub for_with : List Annotation → ForHeading → Statement → Statement
+for_with annots h body = For h.place annots h.first h.condition h.step body
 
 -- no token, with a statement and what is read of annotations
 abbrev pub counted : Statement → AnnotationState → Syntax PlainToken (Statement × AnnotationState)
 counted s n = gives (s, n)
 
 module _ (ws : Vocabulary) where
+  -- what a statement inside another is read as that is one too deep
+  abbrev pub deep_fault : List PlainToken → Result ((Statement × AnnotationState) × List PlainToken) ParseFault
+  deep_fault ts = cond (sees (kind ws) first_branch ts) (Err (Over nesting_limit (length ts))) (Err (At (length ts)))
+
   -- "break" ";"
   unfoldable pub break_statement : Numbered
   break_statement n = reserved ws keyword.Break then λ at. ended ws (Break at, n)
@@ -81,11 +87,12 @@ module _ (ws : Vocabulary) where
 abbrev pub with_misplaced : AnnotationState → Option Place → AnnotationState
 with_misplaced s place = record s { misplaced = first_misplaced s.misplaced place }
 
--- what an annotation before a declaration leaves: a contract waits for a function, and asserts are misplaced
+-- what an annotation before a declaration leaves: a contract waits for a function, and any other is misplaced
 abbrev pub behind_stray : AnnotationState → ReadAnnotation × ℕ → AnnotationState × Option FunctionContract
-behind_stray s y = elim y.0.1 [
-  | None ↦ (after_misplaced s y, None)
-  | Some c ↦ (after_placed s y.1, Some c)
+behind_stray s y = elim y.0 [
+  | Assertions asserts ↦ (after_misplaced s y, None)
+  | Contracted c ↦ (after_placed s y.1, Some c)
+  | Looped l ↦ (after_misplaced s y, None)
 ]
 
 unfoldable pub other_typedefs : PlainType → FileParts → Syntax PlainToken FileParts

@@ -1,14 +1,16 @@
-//! Annotations among the items of blocks (ACSL 2.4.1), before functions (ACSL 2.3), and those that stand where none may.
+//! Annotations among the items of blocks (ACSL 2.4.1), before loops (ACSL 2.4.2) and functions (ACSL 2.3), and those that stand where none may.
 
-ghost use Rattle.std.specs.Prelude.{◌≡◌, [], map, option_map};
+ghost use Rattle.std.specs.Prelude.{◌≡◌, map, option_map};
 ghost use Rattle.c_syntax.specs.Logic.{plain_annot};
 ghost use Rattle.c_syntax.specs.Statements.{Asserts, plain_item};
 ghost use Rattle.c_syntax.specs.Programs.{plain_contract};
-ghost use Rattle.c_model.specs.ProgramGrammar.{first_word, first_misplaced, after_placed, after_misplaced, misplaced, next_stray, taken, left_over};
+ghost use Rattle.c_model.specs.ProgramGrammar.{first_word, contract_place, first_misplaced, after_placed, after_loop, after_misplaced, next_stray};
+ghost use Rattle.c_model.specs.ProgramGrammar.{taken, left_over};
 ghost use Rattle.token_reader.specs.Reading.{Gives, plain_list};
+ghost use Rattle.acsl_parser.specs.Reading.{plain_loop, plain_read};
 ghost use Rattle.c_parser.specs.Reading.{with_misplaced, more_strays, behind_stray};
 
-use acsl_parser::{ReadAnnotation, annotations};
+use acsl_parser::{LoopAnnotation, ReadAnnotation, annotations};
 use c_expr_parser::kinds::ANNOT_OPEN;
 use c_expr_parser::terminals::next_is;
 use c_model::declarations::AnnotationState;
@@ -26,20 +28,23 @@ pub fn make_asserts(clauses: Vec<Annot>) -> Item
     Item::Asserts(clauses)
 }
 
-/// The place of the first word of asserts, or of a contract.
+/// The place of the first word of an annotation.
 fn first_word(read: &ReadAnnotation) -> Option<Place>
-    ensures { result ≡ first_word (map plain_annot read.now.0.items) (option_map plain_contract read.now.1) }
+    ensures { result ≡ first_word (plain_read read.now) }
 {
-    match (&read.1, read.0.as_slice()) {
-        (Some(contract), _) => Some(contract.place),
-        (None, []) => None,
-        (None, [clause, ..]) => Some(clause.place),
+    match read {
+        ReadAnnotation::Asserts(clauses) => match clauses.as_slice() {
+            [] => None,
+            [clause, ..] => Some(clause.place),
+        },
+        ReadAnnotation::Contract(contract) => Some(contract.place),
+        ReadAnnotation::Loop(all) => Some(all.place),
     }
 }
 
 /// The place of the first word of a contract, where there is one.
 pub fn contract_place(contract: &Option<Contract>) -> Option<Place>
-    ensures { result ≡ first_word [] (option_map plain_contract contract.now) }
+    ensures { result ≡ contract_place (option_map plain_contract contract.now) }
 {
     match contract {
         Some(contract) => Some(contract.place),
@@ -74,42 +79,39 @@ pub fn after_placed(state: AnnotationState, number: u32) -> AnnotationState
     AnnotationState { number, misplaced }
 }
 
+/// After the clauses of a loop that follows.
+pub fn after_loop(state: AnnotationState, all: &LoopAnnotation, number: u32) -> AnnotationState
+    ensures { result ≡ after_loop state (plain_loop all.now) number }
+{
+    let misplaced = first_misplaced(state.misplaced, all.again);
+    AnnotationState { number, misplaced }
+}
+
 /// After annotations that don't.
-fn after_misplaced(state: AnnotationState, read: &ReadAnnotation, number: u32) -> AnnotationState
-    ensures { result ≡ after_misplaced state ((map plain_annot read.now.0.items, option_map plain_contract read.now.1), number) }
+pub fn after_misplaced(
+    state: AnnotationState,
+    read: &ReadAnnotation,
+    number: u32,
+) -> AnnotationState
+    ensures { result ≡ after_misplaced state (plain_read read.now, number) }
 {
     let misplaced = first_misplaced(state.misplaced, first_word(read));
     AnnotationState { number, misplaced }
 }
 
-/// An annotation where none may stand.
-#[tactic(auto, unfolding(c_model::specs::ProgramGrammar::misplaced))]
-pub fn misplaced<'a>(
-    alloc: Global,
-    words: &[Word],
-    state: AnnotationState,
-    tokens: &'a [Token],
-) -> Result<(AnnotationState, &'a [Token]), ReadFault>
-    ensures { Gives (λ x. (x.0, plain_list x.1.now)) result ((misplaced words.now state).parse (plain_list tokens.now)) }
-{
-    let (read, number, rest) = annotations(alloc, words, state.number, tokens)?;
-    Ok((after_misplaced(state, &read, number), rest))
-}
-
-/// What an annotation before a declaration leaves: a contract waits for a function, and asserts are misplaced.
+/// What an annotation before a declaration leaves: a contract waits for a function, and any other is misplaced.
 fn behind_stray(
     state: AnnotationState,
     read: ReadAnnotation,
     number: u32,
 ) -> (AnnotationState, Option<Contract>)
-    ensures { (result.0, option_map plain_contract result.1) ≡
-        behind_stray state ((map plain_annot read.0.items, option_map plain_contract read.1), number) }
+    ensures { (result.0, option_map plain_contract result.1) ≡ behind_stray state (plain_read read, number) }
 {
     let misplaced = after_misplaced(state, &read, number);
-    let (_, contract) = read;
-    match contract {
-        None => (misplaced, None),
-        Some(contract) => (after_placed(state, number), Some(contract)),
+    match read {
+        ReadAnnotation::Contract(contract) => (after_placed(state, number), Some(contract)),
+        ReadAnnotation::Asserts(_asserts) => (misplaced, None),
+        ReadAnnotation::Loop(_all) => (misplaced, None),
     }
 }
 
@@ -165,7 +167,7 @@ pub fn taken(awaiting: Option<Contract>, again: bool) -> Option<Contract>
 
 /// The place of the contract that it leaves.
 pub fn left_place(awaiting: &Option<Contract>, again: bool) -> Option<Place>
-    ensures { result ≡ first_word [] (left_over (option_map plain_contract awaiting.now) again) }
+    ensures { result ≡ contract_place (left_over (option_map plain_contract awaiting.now) again) }
 {
     if again {
         contract_place(awaiting)

@@ -9,10 +9,12 @@ mod terminals;
 // What stands in a function.
 mod annotation;
 mod cases;
+mod jumps;
 mod loops;
 mod statement;
 
 // Functions and whole texts.
+mod fault;
 mod function;
 mod functions;
 mod names;

@@ -1,9 +1,10 @@
-//! Conditions, what stands in the parentheses of a `for`, and what is returned (C99 6.8.4, 6.8.5, 6.8.6.4).
+//! Conditions, statements of one expression, and what stands in the parentheses of a `for` (C99 6.8.3, 6.8.4, 6.8.5).
 
-ghost use Rattle.std.specs.Prelude.{◌≡◌, option_map, IfOk};
+ghost use Rattle.std.specs.Prelude.{◌≡◌, map, option_map, IfOk};
+ghost use Rattle.c_syntax.specs.Logic.{plain_annot};
 ghost use Rattle.c_syntax.specs.Expressions.{plain_expr};
 ghost use Rattle.c_syntax.specs.Statements.{plain_stmt, plain_stmt_kind};
-ghost use Rattle.c_model.specs.ProgramGrammar.{condition, effect_statement, effect_behind, for_first, maybe_ended, returned, for_behind};
+ghost use Rattle.c_model.specs.ProgramGrammar.{condition, effect_statement, effect_behind, for_first, maybe_ended, for_behind};
 ghost use Rattle.token_reader.specs.Reading.{Gives, plain_list};
 ghost use Rattle.c_parser.specs.Reading.{plain_first, plain_heading, counted, for_effect, for_heading, for_with};
 
@@ -16,7 +17,7 @@ use c_expr_parser::terminals::{kept, next_begins_expression, next_begins_type, s
 use c_model::declarations::AnnotationState;
 use c_model::vocabulary::Word;
 use c_syntax::fault::ReadFault;
-use c_syntax::{Expr, Item, Place, Stmt, StmtKind, Token};
+use c_syntax::{Annot, Expr, Item, Place, Stmt, StmtKind, Token};
 use std::alloc::{AllocError, Global};
 
 /// A statement, what is read of annotations after it, and what stands behind it.
@@ -151,25 +152,6 @@ pub fn maybe_ended<'a>(
     }
 }
 
-/// `[ comma ] ";"`
-#[tactic(auto, unfolding(c_model::specs::ProgramGrammar::returned, c_model::specs::DeclarationGrammar::ended))]
-pub fn returned<'a>(
-    alloc: Global,
-    words: &[Word],
-    tokens: &'a [Token],
-) -> Result<(Option<Expr>, &'a [Token]), ReadFault>
-    ensures { Gives (λ x. (option_map plain_expr x.0, plain_list x.1.now)) result ((returned words.now).parse (plain_list tokens.now)) }
-{
-    if next_begins_expression(words, tokens) {
-        let (e, rest) = full_expression(alloc, words, tokens)?;
-        let (_, rest) = skip(words, SEMICOLON, rest)?;
-        Ok((Some(e), rest))
-    } else {
-        let (_, rest) = skip(words, SEMICOLON, tokens)?;
-        Ok((None, rest))
-    }
-}
-
 /// `[ comma ] ")"`
 #[tactic(auto, unfolding(c_model::specs::ProgramGrammar::for_behind, c_model::specs::ExpressionGrammar::closed))]
 pub fn for_behind<'a>(
@@ -226,9 +208,9 @@ pub fn for_heading<'a>(
     Ok((heading, state, rest))
 }
 
-/// The loop of a heading and a body.
-pub fn for_kind(alloc: Global, heading: ForHeading, body: Stmt) -> StmtKind
-    ensures { plain_stmt_kind heading.place result ≡ for_with (plain_heading heading) (plain_stmt body) }
+/// The loop of a heading and a body, with its annotations.
+pub fn for_kind(annots: Vec<Annot>, heading: ForHeading, body: Stmt) -> StmtKind
+    ensures { plain_stmt_kind heading.place result ≡ for_with (map plain_annot annots.items) (plain_heading heading) (plain_stmt body) }
 {
     let ForHeading {
         first,
@@ -237,7 +219,7 @@ pub fn for_kind(alloc: Global, heading: ForHeading, body: Stmt) -> StmtKind
         ..
     } = heading;
     match first {
-        Some(item) => StmtKind::For(Vec::new(alloc), Some(item), condition, step, body),
-        None => StmtKind::For(Vec::new(alloc), None, condition, step, body),
+        Some(item) => StmtKind::For(annots, Some(item), condition, step, body),
+        None => StmtKind::For(annots, None, condition, step, body),
     }
 }

@@ -1,38 +1,42 @@
 //! Statements (C99 6.8), which take what is read of annotations before them and give that after.
 
-ghost use Rattle.std.specs.Prelude.{◌≡◌, map, option_map, IfOk};
+ghost use Rattle.std.specs.Prelude.{◌≡◌, ◌<◌, map, IfOk};
 ghost use Rattle.c_syntax.specs.Logic.{plain_annot};
 ghost use Rattle.c_syntax.specs.Expressions.{plain_expr};
 ghost use Rattle.c_syntax.specs.Statements.{plain_stmt, plain_item};
 ghost use Rattle.c_syntax.specs.Statements as statement;
-ghost use Rattle.c_syntax.specs.Programs.{plain_contract};
-ghost use Rattle.c_model.specs.ProgramGrammar.{is_open, block_items, else_branch, else_part, selection, while_loop, do_loop, for_loop, jump, return_statement};
+ghost use Rattle.c_model.specs.ProgramGrammar.{is_open, block_items, else_branch, else_part, selection, while_loop, do_loop, for_loop};
 ghost use Rattle.c_model.specs.ProgramGrammar.{behind_annotation, annotated_item, run_item, item, items_once, items, block, empty_statement};
-ghost use Rattle.c_model.specs.ProgramGrammar.{labelled_statement, named_statement, statement_of, statement_in, branch_in, inside_in};
+ghost use Rattle.c_model.specs.ProgramGrammar.{labelled_statement, named_statement, loop_of, unlooped_of, statement_of};
+ghost use Rattle.c_model.specs.ProgramGrammar.{statement_in, branch_in, behind_in, inside_in};
+ghost use Rattle.c_model.specs.ClauseGrammar.{Looped};
+ghost use Rattle.acsl_parser.specs.Reading.{plain_loop, plain_read};
 ghost use Rattle.c_model.specs.ProgramGrammar.{case_item, case_items_once, case_items, next_case, cases, switch_statement};
-ghost use Rattle.token_reader.specs.Reading.{Gives, plain_list};
-ghost use Rattle.c_parser.specs.Reading.{break_statement, continue_statement, ended_do, read_case};
+ghost use Rattle.token_reader.specs.Reading.{Gives, Fails, plain_list};
+ghost use Rattle.c_parser.specs.Reading.{deep_fault, ended_do, read_case};
 
-use crate::annotation::{after_placed, first_misplaced, make_asserts, misplaced};
+use crate::annotation::{after_loop, after_misplaced, after_placed, first_misplaced, make_asserts};
 use crate::cases::{case_label, make_switch};
+use crate::jumps::{jump, return_statement};
 use crate::loops::{
-    StatementRead, condition, effect_behind, effect_statement, for_heading, for_kind, returned,
-    statement_at, with_statement,
+    StatementRead, condition, effect_behind, effect_statement, for_heading, for_kind, statement_at,
+    with_statement,
 };
 use crate::terminals::{
     next_begins_branch, next_begins_case, next_begins_item, next_begins_statement, next_is_jump,
+    next_is_loop,
 };
-use acsl_parser::{ReadAnnotation, annotations};
+use acsl_parser::{LoopAnnotation, ReadAnnotation, annotations};
 use c_declaration_parser::declaration::declaration;
 use c_expr_parser::kinds::{
-    ANNOT_OPEN, BREAK, COLON, CONTINUE, DO, ELSE, FOR, IF, LEFT_BRACE, NAME, RETURN, RIGHT_BRACE,
-    SEMICOLON, SWITCH, WHILE,
+    ANNOT_OPEN, COLON, DO, ELSE, FOR, IF, LEFT_BRACE, NAME, RETURN, RIGHT_BRACE, SEMICOLON, SWITCH,
+    WHILE,
 };
 use c_expr_parser::terminals::{kept, name, next_begins_type, next_is, skip};
 use c_model::declarations::AnnotationState;
 use c_model::vocabulary::Word;
 use c_syntax::fault::{Limit, ReadFault};
-use c_syntax::{Case, Expr, Item, Place, Stmt, StmtKind, Token};
+use c_syntax::{Annot, Case, Expr, Item, Place, Stmt, StmtKind, Token};
 use std::alloc::{AllocError, Global};
 use token_reader::terminals::left;
 
@@ -70,72 +74,6 @@ fn make_run(s: Stmt) -> Item
     ensures { plain_item result ≡ statement.Run (plain_stmt s) }
 {
     Item::Run(s)
-}
-
-/// `"break" ";"`
-#[tactic(auto, unfolding(crate::specs::Reading::break_statement, c_model::specs::DeclarationGrammar::ended))]
-fn break_statement<'a>(
-    alloc: Global,
-    words: &[Word],
-    state: AnnotationState,
-    tokens: &'a [Token],
-) -> StatementRead<'a>
-    ensures { Gives (λ x. ((plain_stmt x.0, x.1), plain_list x.2.now)) result
-        ((break_statement words.now state).parse (plain_list tokens.now)) }
-{
-    let (place, rest) = skip(words, BREAK, tokens)?;
-    let (_, rest) = skip(words, SEMICOLON, rest)?;
-    with_statement(alloc, place, StmtKind::Break, state, rest)
-}
-
-/// `"continue" ";"`
-#[tactic(auto, unfolding(crate::specs::Reading::continue_statement, c_model::specs::DeclarationGrammar::ended))]
-fn continue_statement<'a>(
-    alloc: Global,
-    words: &[Word],
-    state: AnnotationState,
-    tokens: &'a [Token],
-) -> StatementRead<'a>
-    ensures { Gives (λ x. ((plain_stmt x.0, x.1), plain_list x.2.now)) result
-        ((continue_statement words.now state).parse (plain_list tokens.now)) }
-{
-    let (place, rest) = skip(words, CONTINUE, tokens)?;
-    let (_, rest) = skip(words, SEMICOLON, rest)?;
-    with_statement(alloc, place, StmtKind::Continue, state, rest)
-}
-
-/// `"break" ";"` or `"continue" ";"`
-#[tactic(auto, unfolding(c_model::specs::ProgramGrammar::jump, crate::specs::Reading::break_statement, crate::specs::Reading::continue_statement))]
-fn jump<'a>(
-    alloc: Global,
-    words: &[Word],
-    state: AnnotationState,
-    tokens: &'a [Token],
-) -> StatementRead<'a>
-    ensures { Gives (λ x. ((plain_stmt x.0, x.1), plain_list x.2.now)) result
-        ((jump words.now state).parse (plain_list tokens.now)) }
-{
-    if next_is(words, BREAK, tokens) {
-        break_statement(alloc, words, state, tokens)
-    } else {
-        continue_statement(alloc, words, state, tokens)
-    }
-}
-
-/// `"return" [ comma ] ";"`
-#[tactic(auto, unfolding(c_model::specs::ProgramGrammar::return_statement))]
-fn return_statement<'a>(
-    alloc: Global,
-    words: &[Word],
-    state: AnnotationState,
-    tokens: &'a [Token],
-) -> StatementRead<'a>
-    ensures { Gives (λ x. ((plain_stmt x.0, x.1), plain_list x.2.now)) result
-        ((return_statement words.now state).parse (plain_list tokens.now)) }
-{
-    let (place, rest) = skip(words, RETURN, tokens)?;
-    let (e, rest) = returned(alloc, words, rest)?;
-    with_statement(alloc, place, StmtKind::Return(e), state, rest)
 }
 
 /// `";"`
@@ -231,16 +169,20 @@ fn while_loop<'a>(
     alloc: Global,
     words: &[Word],
     levels: u32,
+    annots: Vec<Annot>,
     state: AnnotationState,
     tokens: &'a [Token],
 ) -> StatementRead<'a>
     ensures { Gives (λ x. ((plain_stmt x.0, x.1), plain_list x.2.now)) result
-        ((while_loop words.now (branch_in words.now levels) state).parse (plain_list tokens.now)) }
+        ((while_loop words.now (branch_in words.now levels) (map plain_annot annots.items) state).parse (plain_list tokens.now)) }
 {
-    let (place, rest) = skip(words, WHILE, tokens)?;
-    let (e, rest) = condition(alloc, words, rest)?;
-    let (e, (body, state, rest)) = kept(e, branch(alloc, words, levels, state, rest))?;
-    let kind = StmtKind::While(Vec::new(alloc), e, body);
+    let (annots, (place, rest)) = kept(annots, skip(words, WHILE, tokens))?;
+    let (annots, (e, rest)) = kept(annots, condition(alloc, words, rest))?;
+    let ((annots, e), (body, state, rest)) = kept(
+        (annots, e),
+        branch(alloc, words, levels, state, rest),
+    )?;
+    let kind = StmtKind::While(annots, e, body);
     with_statement(alloc, place, kind, state, rest)
 }
 
@@ -291,16 +233,41 @@ fn for_loop<'a>(
     alloc: Global,
     words: &[Word],
     levels: u32,
+    annots: Vec<Annot>,
     state: AnnotationState,
     tokens: &'a [Token],
 ) -> StatementRead<'a>
     ensures { Gives (λ x. ((plain_stmt x.0, x.1), plain_list x.2.now)) result
-        ((for_loop words.now (branch_in words.now levels) state).parse (plain_list tokens.now)) }
+        ((for_loop words.now (branch_in words.now levels) (map plain_annot annots.items) state).parse (plain_list tokens.now)) }
 {
-    let (heading, state, rest) = for_heading(alloc, words, state, tokens)?;
-    let (heading, (body, state, rest)) = kept(heading, branch(alloc, words, levels, state, rest))?;
+    let (annots, (heading, state, rest)) = kept(annots, for_heading(alloc, words, state, tokens))?;
+    let ((annots, heading), (body, state, rest)) = kept(
+        (annots, heading),
+        branch(alloc, words, levels, state, rest),
+    )?;
     let place = heading.place;
-    with_statement(alloc, place, for_kind(alloc, heading, body), state, rest)
+    with_statement(alloc, place, for_kind(annots, heading, body), state, rest)
+}
+
+/// A loop, with the annotations that belong to it.
+#[tactic(auto, unfolding(c_model::specs::ProgramGrammar::loop_of))]
+#[cycle(statement)]
+fn loop_of<'a>(
+    alloc: Global,
+    words: &[Word],
+    levels: u32,
+    annots: Vec<Annot>,
+    state: AnnotationState,
+    tokens: &'a [Token],
+) -> StatementRead<'a>
+    ensures { Gives (λ x. ((plain_stmt x.0, x.1), plain_list x.2.now)) result
+        ((loop_of words.now (branch_in words.now levels) (map plain_annot annots.items) state).parse (plain_list tokens.now)) }
+{
+    if next_is(words, WHILE, tokens) {
+        while_loop(alloc, words, levels, annots, state, tokens)
+    } else {
+        for_loop(alloc, words, levels, annots, state, tokens)
+    }
 }
 
 /// A statement as an item.
@@ -320,8 +287,7 @@ fn run_item<'a>(
     Ok((make_run(s), state, rest))
 }
 
-/// What stands behind an annotation in a block: nothing behind asserts, which are an item, and a statement behind a contract, where
-/// none may stand.
+/// What stands behind an annotation in a block: nothing behind asserts, which are an item, and else the rest of a statement.
 #[tactic(auto, unfolding(c_model::specs::ProgramGrammar::behind_annotation, c_model::specs::ProgramGrammar::run_item))]
 #[cycle(statement)]
 fn behind_annotation<'a>(
@@ -334,18 +300,20 @@ fn behind_annotation<'a>(
     tokens: &'a [Token],
 ) -> ItemRead<'a>
     ensures { Gives (λ x. ((plain_item x.0, x.1), plain_list x.2.now)) result
-        ((behind_annotation words.now (inside_in words.now levels) state
-        ((map plain_annot read.0.items, option_map plain_contract read.1), number)).parse (plain_list tokens.now)) }
+        ((behind_annotation words.now (inside_in words.now levels) state (plain_read read, number)).parse (plain_list tokens.now)) }
 {
-    let (asserts, contract) = read;
-    match contract {
-        None => Ok((make_asserts(asserts), after_placed(state, number), tokens)),
-        Some(contract) => {
-            let misplaced = first_misplaced(state.misplaced, Some(contract.place));
-            drop(contract);
-            drop(asserts);
-            let state = AnnotationState { number, misplaced };
-            let (s, state, rest) = inside(alloc, words, levels, state, tokens)?;
+    match read {
+        ReadAnnotation::Asserts(asserts) => {
+            Ok((make_asserts(asserts), after_placed(state, number), tokens))
+        }
+        ReadAnnotation::Contract(contract) => {
+            let read = ReadAnnotation::Contract(contract);
+            let (s, state, rest) = inside(alloc, words, levels, read, number, state, tokens)?;
+            Ok((make_run(s), state, rest))
+        }
+        ReadAnnotation::Loop(all) => {
+            let read = ReadAnnotation::Loop(all);
+            let (s, state, rest) = inside(alloc, words, levels, read, number, state, tokens)?;
             Ok((make_run(s), state, rest))
         }
     }
@@ -643,6 +611,41 @@ fn named_statement<'a>(
     }
 }
 
+/// A statement that is no loop to which annotations may belong.
+#[tactic(auto, unfolding(c_model::specs::ProgramGrammar::unlooped_of))]
+#[cycle(statement)]
+fn unlooped<'a>(
+    alloc: Global,
+    words: &[Word],
+    levels: u32,
+    state: AnnotationState,
+    tokens: &'a [Token],
+) -> StatementRead<'a>
+    ensures { Gives (λ x. ((plain_stmt x.0, x.1), plain_list x.2.now)) result
+        ((unlooped_of words.now (statement_in words.now levels) (inside_in words.now levels) (branch_in words.now levels)
+        state).parse (plain_list tokens.now)) }
+{
+    if next_is(words, LEFT_BRACE, tokens) {
+        block(alloc, words, levels, state, tokens)
+    } else if next_is(words, SEMICOLON, tokens) {
+        empty_statement(alloc, words, state, tokens)
+    } else if next_is(words, IF, tokens) {
+        selection(alloc, words, levels, state, tokens)
+    } else if next_is(words, DO, tokens) {
+        do_loop(alloc, words, levels, state, tokens)
+    } else if next_is(words, SWITCH, tokens) {
+        switch_statement(alloc, words, levels, state, tokens)
+    } else if next_is(words, RETURN, tokens) {
+        return_statement(alloc, words, state, tokens)
+    } else if next_is_jump(words, tokens) {
+        jump(alloc, words, state, tokens)
+    } else if next_is(words, NAME, tokens) {
+        named_statement(alloc, words, levels, state, tokens)
+    } else {
+        effect_statement(alloc, words, state, tokens)
+    }
+}
+
 /// A statement in which statements stand at most so many levels deep, itself included.
 #[tactic(auto, using(crate::proofs::Steps::statement_rules), unfolding(c_model::specs::ProgramGrammar::statement_of))]
 #[cycle(statement)]
@@ -663,29 +666,21 @@ fn statement<'a>(
             Err(ReadFault::At(left(tokens)))
         };
     }
-    let levels = levels - 1;
-    if next_is(words, LEFT_BRACE, tokens) {
-        block(alloc, words, levels, state, tokens)
-    } else if next_is(words, SEMICOLON, tokens) {
-        empty_statement(alloc, words, state, tokens)
-    } else if next_is(words, IF, tokens) {
-        selection(alloc, words, levels, state, tokens)
-    } else if next_is(words, WHILE, tokens) {
-        while_loop(alloc, words, levels, state, tokens)
-    } else if next_is(words, DO, tokens) {
-        do_loop(alloc, words, levels, state, tokens)
-    } else if next_is(words, FOR, tokens) {
-        for_loop(alloc, words, levels, state, tokens)
-    } else if next_is(words, SWITCH, tokens) {
-        switch_statement(alloc, words, levels, state, tokens)
-    } else if next_is(words, RETURN, tokens) {
-        return_statement(alloc, words, state, tokens)
-    } else if next_is_jump(words, tokens) {
-        jump(alloc, words, state, tokens)
-    } else if next_is(words, NAME, tokens) {
-        named_statement(alloc, words, levels, state, tokens)
+    if next_is_loop(words, tokens) {
+        loop_of(alloc, words, levels - 1, Vec::new(alloc), state, tokens)
     } else {
-        effect_statement(alloc, words, state, tokens)
+        unlooped(alloc, words, levels - 1, state, tokens)
+    }
+}
+
+/// A statement inside another that is one too deep.
+fn too_deep(words: &[Word], tokens: &[Token]) -> ReadFault
+    ensures { Fails result (deep_fault words.now (plain_list tokens.now)) }
+{
+    if next_begins_branch(words, tokens) {
+        ReadFault::Over(Limit::Nesting, left(tokens))
+    } else {
+        ReadFault::At(left(tokens))
     }
 }
 
@@ -703,17 +698,76 @@ fn branch<'a>(
         (plain_list tokens.now)) }
 {
     if levels == 0 {
-        return if next_begins_branch(words, tokens) {
-            Err(ReadFault::Over(Limit::Nesting, left(tokens)))
-        } else {
-            Err(ReadFault::At(left(tokens)))
-        };
+        return Err(too_deep(words, tokens));
     }
     if next_is(words, ANNOT_OPEN, tokens) {
-        let (state, rest) = misplaced(alloc, words, state, tokens)?;
-        branch(alloc, words, levels - 1, state, rest)
+        let (read, number, rest) = annotations(alloc, words, state.number, tokens)?;
+        behind(alloc, words, levels - 1, read, number, state, rest)
     } else {
         statement(alloc, words, levels, state, tokens)
+    }
+}
+
+/// A loop, or a branch before which the clauses of a loop are misplaced.
+#[tactic(auto, using(crate::proofs::Steps::behind_loop_rules))]
+#[cycle(statement)]
+fn behind_loop<'a>(
+    alloc: Global,
+    words: &[Word],
+    levels: u32,
+    all: LoopAnnotation,
+    number: u32,
+    state: AnnotationState,
+    tokens: &'a [Token],
+) -> StatementRead<'a>
+    requires { 0 < levels }
+    ensures { Gives (λ x. ((plain_stmt x.0, x.1), plain_list x.2.now)) result
+        ((behind_in words.now levels (Looped (plain_loop all), number) state).parse (plain_list tokens.now)) }
+{
+    if next_is_loop(words, tokens) {
+        let state = after_loop(state, &all, number);
+        loop_of(alloc, words, levels - 1, all.clauses, state, tokens)
+    } else {
+        let misplaced = first_misplaced(state.misplaced, Some(all.place));
+        drop(all);
+        let state = AnnotationState { number, misplaced };
+        branch(alloc, words, levels, state, tokens)
+    }
+}
+
+/// What stands behind an annotation inside a statement, in which statements stand at most so many levels deep, itself included.
+#[tactic(auto, using(crate::proofs::Steps::behind_rules))]
+#[cycle(statement)]
+fn behind<'a>(
+    alloc: Global,
+    words: &[Word],
+    levels: u32,
+    read: ReadAnnotation,
+    number: u32,
+    state: AnnotationState,
+    tokens: &'a [Token],
+) -> StatementRead<'a>
+    ensures { Gives (λ x. ((plain_stmt x.0, x.1), plain_list x.2.now)) result
+        ((behind_in words.now levels (plain_read read, number) state).parse (plain_list tokens.now)) }
+{
+    if levels == 0 {
+        drop(read);
+        return Err(too_deep(words, tokens));
+    }
+    match read {
+        ReadAnnotation::Loop(all) => behind_loop(alloc, words, levels, all, number, state, tokens),
+        ReadAnnotation::Asserts(asserts) => {
+            let read = ReadAnnotation::Asserts(asserts);
+            let state = after_misplaced(state, &read, number);
+            drop(read);
+            branch(alloc, words, levels, state, tokens)
+        }
+        ReadAnnotation::Contract(contract) => {
+            let read = ReadAnnotation::Contract(contract);
+            let state = after_misplaced(state, &read, number);
+            drop(read);
+            branch(alloc, words, levels, state, tokens)
+        }
     }
 }
 
@@ -724,18 +778,17 @@ fn inside<'a>(
     alloc: Global,
     words: &[Word],
     levels: u32,
+    read: ReadAnnotation,
+    number: u32,
     state: AnnotationState,
     tokens: &'a [Token],
 ) -> StatementRead<'a>
-    ensures { Gives (λ x. ((plain_stmt x.0, x.1), plain_list x.2.now)) result ((inside_in words.now levels state).parse
-        (plain_list tokens.now)) }
+    ensures { Gives (λ x. ((plain_stmt x.0, x.1), plain_list x.2.now)) result
+        ((inside_in words.now levels (plain_read read, number) state).parse (plain_list tokens.now)) }
 {
     if levels == 0 {
-        return if next_begins_branch(words, tokens) {
-            Err(ReadFault::Over(Limit::Nesting, left(tokens)))
-        } else {
-            Err(ReadFault::At(left(tokens)))
-        };
+        drop(read);
+        return Err(too_deep(words, tokens));
     }
-    branch(alloc, words, levels - 1, state, tokens)
+    behind(alloc, words, levels - 1, read, number, state, tokens)
 }

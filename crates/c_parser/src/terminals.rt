@@ -4,7 +4,7 @@ ghost use Rattle.std.specs.Prelude.{◌≡◌, ◌++◌, [], ◌∷◌};
 ghost use Rattle.grammar.specs.Syntax.{among, sees};
 ghost use Rattle.c_model.specs.declared.vocabulary.Keyword.TheVariants as keyword;
 ghost use Rattle.c_model.specs.ExpressionGrammar.{kind, keyword_kind, first_type};
-ghost use Rattle.c_model.specs.ProgramGrammar.{first_statement, first_branch, first_item, first_case};
+ghost use Rattle.c_model.specs.ProgramGrammar.{first_loop, first_statement, first_branch, first_item, first_case};
 ghost use Rattle.token_reader.specs.Reading.{plain_list};
 
 use c_expr_parser::kinds::{
@@ -35,6 +35,19 @@ fn begins_branch(kind: u32) -> bool
     ensures { result ≡ among kind first_branch }
 {
     kind == ANNOT_OPEN || begins_statement(kind)
+}
+
+/// Whether a loop comes next to which annotations may belong.
+pub fn next_is_loop(words: &[Word], tokens: &[Token]) -> bool
+    ensures { result ≡ sees (kind words.now) first_loop (plain_list tokens.now) }
+{
+    match tokens {
+        [] => false,
+        [token, ..] => {
+            let kind = kind(words, token);
+            kind == WHILE || kind == FOR
+        }
+    }
 }
 
 pub fn next_begins_statement(words: &[Word], tokens: &[Token]) -> bool

@@ -1,119 +1,132 @@
 -- A chain of relations goes up, or down, or has one relation alone (ACSL 2.2.1).
-use Rattle.std.proofs.Common.{◌≡◌, ℕ, zero, suc, List, [], Some, refl, sym, subst, ◌⊎◌, inl, inr}
+use Rattle.std.proofs.Common.{◌≡◌, ℕ, zero, suc, List, [], Some, None, refl, sym, subst, ◌⊎◌, inl, inr}
 use Rattle.grammar.specs.Syntax.{Syntax, none, gives, one, ◌then◌, knot_at}
 use Rattle.grammar.specs.Exact.{Same}
-use Rattle.grammar.proofs.Forms.{to_left, joined as same_so}
-use Rattle.grammar_laws.specs.Plain.{◌or◌, folded}
+use Rattle.grammar.proofs.Forms.{to_left}
+use Rattle.grammar_laws.specs.Plain.{◌or◌}
 use Rattle.grammar_laws.proofs.Inclusions.{Within, both, forth, back, itself, ◌so◌, either, first, second, each, nothing, on, in_turn, in_turn_where}
 use Rattle.grammar_laws.proofs.Inclusions.{after_either, handed, handed_back, given_first, given_back, at_each, at_some, apart_before, apart_after}
 use Rattle.grammar_laws.proofs.Tokens.{just, by_token, just_then, just_on, AllEntries, IsEntry, table_holds, in_table}
-use Rattle.grammar_laws.proofs.Chains.{still, sequence, alternatives, knot_line}
-use Rattle.grammar_laws.proofs.BareLevels.{links_of_bare, bare_links, chain_bare, shift_none}
+use Rattle.grammar_laws.proofs.AnnotationKnots.{links_knot}
 use Rattle.c_syntax.specs.declared.place.Place.{Place}
 use Rattle.c_syntax.specs.declared.annotation.Relation.{Relation}
-use Rattle.c_syntax.specs.Formulas.{Form, FormLinks, NoLink, Linked, FormZone}
+use Rattle.c_syntax.specs.Formulas.{Form, FormLinks, NoLink}
 use Rattle.c_syntax.specs.Tokens.{PlainToken}
 use Rattle.c_model.specs.declared.formulas.ChainDirection.{ChainDirection}
 use Rattle.c_model.specs.declared.formulas.ChainDirection.TheVariants.{Start, Equal, Up, Down, Ended}
-use Rattle.c_model.specs.declared.formulas.FormulaMode.TheVariants as mode
 use Rattle.c_model.specs.Vocabulary.{Vocabulary}
 use Rattle.c_model.specs.Terminals.{placed, entry, mark_entry}
 use Rattle.c_model.specs.ExpressionGrammar.{kinds_of}
-use Rattle.c_model.specs.AnnotationGrammar.{formula_kind, relations_behind, direction_behind, chained, zone, forms, form, shift, chain}
-use Rattle.grammar_laws.specs.AnnotationProductions.{upward, downward, unequal, linked, link}
+use Rattle.c_model.specs.AnnotationGrammar.{formula_kind, Spanned, unended, unended_only, as_it_is, relations_behind, direction_behind, chained, links_of, links as parsed_links, linked as parsed_linked, chain_behind, chain_of, shift, chain}
+use Rattle.grammar_laws.specs.AnnotationProductions.{upward, downward, unequal, linked, link, folded_open}
 use Rattle.grammar_laws.specs.AnnotationProductions as production
 
 abbrev no : PlainToken → ℕ
 no t = 0
 
 abbrev Links : Type 1
-Links = Syntax PlainToken FormLinks
+Links = Syntax PlainToken (Spanned FormLinks)
 
 module _ (ws : Vocabulary) where
-  abbrev F : Syntax PlainToken Form
-  F = form ws
-
-  abbrev Z : Syntax PlainToken FormZone
-  Z = zone ws (forms ws)
-
-  abbrev R : Syntax PlainToken Form
-  R = production.bare ws (shift ws)
+  abbrev R : Syntax PlainToken (Spanned Form)
+  R = production.alone ws (shift ws)
 
   -- links of the parser at most k deep, and of one table
   abbrev U : ℕ → ChainDirection → Links
-  U k d = knot_at (links_of_bare ws R) k d
+  U k d = knot_at (links_of ws R) k d
 
   abbrev links : ChainDirection → Links
-  links d = bare_links ws R d
+  links d = parsed_links ws R d
 
-  -- what goes on with itself is its production
-  links_line : (d : ChainDirection) → Same (links d) (links_of_bare ws R links d)
-  links_line d =
-      knot_line (links_of_bare ws R) (λ L e. inr refl) (λ L L' l e.
-      alternatives (formula_kind ws) (kinds_of (relations_behind e))
-      (sequence (still (one (placed (mark_entry (relations_behind e))))) (λ r. sequence (still R) (λ x. sequence (l (direction_behind e r.0)) (λ ls. still (gives (Linked r.1 r.0 x ls)))))) (still (gives NoLink))) d
+  links_line : (d : ChainDirection) → Same (links d) (links_of ws R links d)
+  links_line d = links_knot ws R d
 
   abbrev V : ℕ → List (ℕ × Relation) → Links
-  V k table = knot_at {S = Unit {0}} (λ L u. (link ws table then λ l. L u then λ rest. gives (linked l rest)) or gives NoLink) k tt
+  V k table =
+      knot_at {S = Unit {0}} (λ L u. (link ws table then λ l. unended (λ (_ : Relation × Place × Form). L u) (λ _. NoLink) l then λ rest. gives (linked l.0 rest.0, rest.1)) or gives (NoLink, None)) k tt
 
   abbrev W : List (ℕ × Relation) → Links
-  W table = folded (link ws table) linked NoLink
+  W table = folded_open (link ws table) linked NoLink
+
+  -- the links X after an operand, which may end them
+  abbrev behind : Links → Spanned Form → Links
+  behind X x = unended (λ (_ : Form). X) (λ _. NoLink) x
+
+  behind_within : {X Y : Links} → Within X Y → (x : Spanned Form) → Within (behind X x) (behind Y x)
+  behind_within w (a, None) = w
+  behind_within w (a, Some e) = itself _
+
+  behind_apart : (X Y : Links) (x : Spanned Form) → Within (behind (X or Y) x) (behind X x or behind Y x)
+  behind_apart X Y (a, None) = itself (X or Y)
+  behind_apart X Y (a, Some e) = first no [] (gives (NoLink, Some e)) (itself _)
 
   -- the operand after a relation, and the links X after it
+  abbrev ending : Relation × Place → Spanned Form → Spanned FormLinks → Links
+  ending r x rest = gives (linked (r.0, r.1, x.0) rest.0, rest.1)
+
   abbrev body : Links → Relation × Place → Links
-  body X r = R then λ x. X then λ rest. gives (linked (r.0, r.1, x) rest)
+  body X r = R then λ x. behind X x then ending r x
 
   body_within : {X Y : Links} (r : Relation × Place) → Within X Y → Within (body X r) (body Y r)
-  body_within r w = on R (λ x. in_turn w (λ rest. itself _))
-
-  abbrev ending : Relation × Place → Form → FormLinks → Links
-  ending r x rest = gives (linked (r.0, r.1, x) rest)
+  body_within r w = on R (λ x. in_turn (behind_within w x) (λ rest. itself _))
 
   body_apart : (X Y : Links) (r : Relation × Place) → Within (body (X or Y) r) (body X r or body Y r)
-  body_apart X Y r = on R (λ x. apart_before no [] X Y (ending r x)) so apart_after no [] R (λ x. X then ending r x) (λ x. Y then ending r x)
+  body_apart X Y r =
+      on R (λ x. in_turn (behind_apart X Y x) (λ rest. itself (ending r x rest)) so apart_before no [] (behind X x) (behind Y x) (ending r x))
+      so apart_after no [] R (λ x. behind X x then ending r x) (λ x. behind Y x then ending r x)
 
   -- a link and what stands after it
   module _ (table : List (ℕ × Relation)) (X : Links) where
-    abbrev K : Relation × Place × Form → Links
-    K l = X then λ rest. gives (linked l rest)
+    abbrev K : Spanned (Relation × Place × Form) → Links
+    K l = unended (λ (_ : Relation × Place × Form). X) (λ _. NoLink) l then λ rest. gives (linked l.0 rest.0, rest.1)
+
+    abbrev with_form : Relation × Place → Spanned Form → Spanned (Relation × Place × Form)
+    with_form r x = ((r.0, r.1, x.0), x.1)
 
     to_link : Within (one (placed (mark_entry table)) then body X) (link ws table then K)
     to_link =
-        on (one (placed (mark_entry table))) (λ r. handed R (λ x. (r.0, r.1, x)) K)
-        so forth (to_left (one (placed (mark_entry table))) (λ r. R then λ x. gives (r.0, r.1, x)) K)
+        on (one (placed (mark_entry table))) (λ r. handed R (with_form r) K) so forth (to_left (one (placed (mark_entry table))) (λ r. R then λ x. gives (with_form r x)) K)
 
-    from_link : ((l : Relation × Place × Form) → (K l).begun []) → Within (link ws table then K) (one (placed (mark_entry table)) then body X)
+    from_link : ((l : Spanned (Relation × Place × Form)) → (K l).begun []) → Within (link ws table then K) (one (placed (mark_entry table)) then body X)
     from_link empty =
-        back (to_left (one (placed (mark_entry table))) (λ r. R then λ x. gives (r.0, r.1, x)) K)
-        so on (one (placed (mark_entry table))) (λ r. handed_back R (λ x. (r.0, r.1, x)) K (λ x. empty (r.0, r.1, x)))
+        back (to_left (one (placed (mark_entry table))) (λ r. R then λ x. gives (with_form r x)) K)
+        so on (one (placed (mark_entry table))) (λ r. handed_back R (with_form r) K (λ x. empty (with_form r x)))
 
   V_empty : (k : ℕ) (table : List (ℕ × Relation)) → (V k table).begun []
   V_empty zero table = refl
   V_empty (suc k) table = inr refl
 
   turn : (k : ℕ) (table : List (ℕ × Relation)) → Within (one (placed (mark_entry table)) then body (V k table)) (V (suc k) table)
-  turn k table = to_link table (V k table) so first no [] (gives NoLink) (itself _)
+  turn k table = to_link table (V k table) so first no [] (gives (NoLink, None)) (itself _)
 
-  turn_back : (k : ℕ) (table : List (ℕ × Relation)) {Z : Links} → Within (one (placed (mark_entry table)) then body (V k table)) Z → Within (gives NoLink) Z → Within (V (suc k) table) Z
-  turn_back k table w v = either no [] (from_link table (V k table) (λ l. inl (V_empty k table)) so w) v
+  K_empty : (k : ℕ) (table : List (ℕ × Relation)) (l : Spanned (Relation × Place × Form)) → (K table (V k table) l).begun []
+  K_empty k table (a, None) = inl (V_empty k table)
+  K_empty k table (a, Some e) = inl refl
+
+  turn_back : (k : ℕ) (table : List (ℕ × Relation)) {Z : Links} → Within (one (placed (mark_entry table)) then body (V k table)) Z → Within (gives (NoLink, None)) Z → Within (V (suc k) table) Z
+  turn_back k table w v = either no [] (from_link table (V k table) (K_empty k table) so w) v
 
   -- the parser's links, a turn at a time
-  parser_turn : (k : ℕ) (d : ChainDirection) {Z : Links} → Within (one (placed (mark_entry (relations_behind d))) then λ r. body (U k (direction_behind d r.0)) r) Z → Within (gives NoLink) Z → Within (U (suc k) d) Z
+  parser_turn : (k : ℕ) (d : ChainDirection) {Z : Links} → Within (one (placed (mark_entry (relations_behind d))) then λ r. body (U k (direction_behind d r.0)) r) Z → Within (gives (NoLink, None)) Z → Within (U (suc k) d) Z
+  unfolding links_of parsed_linked
   parser_turn k d w v = either (formula_kind ws) (kinds_of (relations_behind d)) w v
 
-  into_parser : (d : ChainDirection) → Within (one (placed (mark_entry (relations_behind d))) then λ r. body (links (direction_behind d r.0)) r) (links_of_bare ws R links d)
-  into_parser d = first (formula_kind ws) (kinds_of (relations_behind d)) (gives NoLink) (itself _)
+  into_parser : (d : ChainDirection) → Within (one (placed (mark_entry (relations_behind d))) then λ r. body (links (direction_behind d r.0)) r) (links_of ws R links d)
+  unfolding links_of parsed_linked
+  into_parser d = first (formula_kind ws) (kinds_of (relations_behind d)) (gives (NoLink, None)) (itself _)
 
-  end_parser : (d : ChainDirection) → Within (gives NoLink) (links_of_bare ws R links d)
-  end_parser d = second (formula_kind ws) (kinds_of (relations_behind d)) _ (itself (gives NoLink))
+  end_parser : (d : ChainDirection) → Within (gives (NoLink, None)) (links_of ws R links d)
+  unfolding links_of parsed_linked
+  end_parser d = second (formula_kind ws) (kinds_of (relations_behind d)) _ (itself (gives (NoLink, None)))
 
   to_parser : (d : ChainDirection) → Within (one (placed (mark_entry (relations_behind d))) then λ r. body (links (direction_behind d r.0)) r) (links d)
   to_parser d = into_parser d so back (links_line d)
 
-  ends_parser : (d : ChainDirection) → Within (gives NoLink) (links d)
+  ends_parser : (d : ChainDirection) → Within (gives (NoLink, None)) (links d)
   ends_parser d = end_parser d so back (links_line d)
 
   links_empty : (d : ChainDirection) → (links d).begun []
+  unfolding parsed_links
   links_empty d = (0, refl)
 
   -- ---- which way a chain goes on
@@ -128,7 +141,7 @@ module _ (ws : Vocabulary) where
     one_way (suc k) =
         parser_turn k d
         (in_turn_where (itself (one (placed (mark_entry (relations_behind d))))) (λ x a r. body_within x (subst (λ c. Within (U k c) (V k (relations_behind d))) (sym (stays r.0 x r.2)) (one_way k)))
-        so turn k (relations_behind d)) (second no [] _ (itself (gives NoLink)))
+        so turn k (relations_behind d)) (second no [] _ (itself (gives (NoLink, None))))
 
     one_way_back : (k : ℕ) → Within (V k (relations_behind d)) (links d)
     one_way_back zero = nothing (links d) (links_empty d)
@@ -186,26 +199,38 @@ module _ (ws : Vocabulary) where
   equal_forth : (k : ℕ) → Within (U k Equal) (Either k)
   equal_forth zero = first no [] none (itself none)
   equal_forth (suc k) =
-      parser_turn k Equal (by_token (inl (V_empty (suc k) upward)) (λ t x e. equal_token k t x (equal_forth k) e)) (first no [] _ (second no [] _ (itself (gives NoLink))))
+      parser_turn k Equal (by_token (inl (V_empty (suc k) upward)) (λ t x e. equal_token k t x (equal_forth k) e)) (first no [] _ (second no [] _ (itself (gives (NoLink, None)))))
 
   -- ---- from the start, it has one relation `!=` alone besides
 
   abbrev N : Links
-  N = link ws unequal then λ l. gives (linked l NoLink)
+  N = link ws unequal then λ l. gives (linked l.0 NoLink, l.1)
 
-  ended_forth : (k : ℕ) → Within (U k Ended) (gives NoLink)
-  ended_forth zero = nothing (gives NoLink) refl
-  ended_forth (suc k) = parser_turn k Ended (by_token refl (λ t x e. absurd (table_holds (λ m r. ⊥) [] t x tt e).2)) (itself (gives NoLink))
+  ended_forth : (k : ℕ) → Within (U k Ended) (gives (NoLink, None))
+  ended_forth zero = nothing (gives (NoLink, None)) refl
+  ended_forth (suc k) = parser_turn k Ended (by_token refl (λ t x e. absurd (table_holds (λ m r. ⊥) [] t x tt e).2)) (itself (gives (NoLink, None)))
 
-  alone : Within (one (placed (mark_entry unequal)) then λ r. R then λ y. gives (linked (r.0, r.1, y) NoLink)) N
+  -- an operand, and no link behind it
+  abbrev last : Relation × Place → Spanned Form → Links
+  last r y = gives (linked (r.0, r.1, y.0) NoLink, y.1)
+
+  alone : Within (one (placed (mark_entry unequal)) then λ r. R then last r) N
   alone =
-      on (one (placed (mark_entry unequal))) (λ r. handed R (λ y. (r.0, r.1, y)) (λ l. gives (linked l NoLink)))
-      so forth (to_left (one (placed (mark_entry unequal))) (λ r. R then λ y. gives (r.0, r.1, y)) (λ l. gives (linked l NoLink)))
+      on (one (placed (mark_entry unequal))) (λ r. handed R (λ y. ((r.0, r.1, y.0), y.1)) (λ l. gives (linked l.0 NoLink, l.1)))
+      so forth (to_left (one (placed (mark_entry unequal))) (λ r. R then λ y. gives ((r.0, r.1, y.0), y.1)) (λ l. gives (linked l.0 NoLink, l.1)))
 
-  alone_back : Within N (one (placed (mark_entry unequal)) then λ r. R then λ y. gives (linked (r.0, r.1, y) NoLink))
+  alone_back : Within N (one (placed (mark_entry unequal)) then λ r. R then last r)
   alone_back =
-      back (to_left (one (placed (mark_entry unequal))) (λ r. R then λ y. gives (r.0, r.1, y)) (λ l. gives (linked l NoLink)))
-      so on (one (placed (mark_entry unequal))) (λ r. handed_back R (λ y. (r.0, r.1, y)) (λ l. gives (linked l NoLink)) (λ y. refl))
+      back (to_left (one (placed (mark_entry unequal))) (λ r. R then λ y. gives ((r.0, r.1, y.0), y.1)) (λ l. gives (linked l.0 NoLink, l.1)))
+      so on (one (placed (mark_entry unequal))) (λ r. handed_back R (λ y. ((r.0, r.1, y.0), y.1)) (λ l. gives (linked l.0 NoLink, l.1)) (λ y. refl))
+
+  last_of : (r : Relation × Place) (y : Spanned Form) → Within (behind (gives (NoLink, None)) y then ending r y) (last r y)
+  last_of r (a, None) = given_first (NoLink, None) (ending r (a, None)) refl
+  last_of r (a, Some e) = given_first (NoLink, Some e) (ending r (a, Some e)) refl
+
+  of_last : {X : Links} (r : Relation × Place) → Within (gives (NoLink, None)) X → (y : Spanned Form) → Within (last r y) (behind X y then ending r y)
+  of_last r w (a, None) = given_back (NoLink, None) (ending r (a, None)) so in_turn w (λ rest. itself _)
+  of_last r w (a, Some e) = given_back (NoLink, Some e) (ending r (a, Some e))
 
   abbrev Started : (ℕ → Relation → Type 0)
   Started m r =
@@ -233,15 +258,16 @@ module _ (ws : Vocabulary) where
           so go_on k t x (in_table (relations_behind Start) upward t x m e q p) (in_table (relations_behind Start) downward t x m e q r) (itself (Either k))
           so each no [] no [] (itself (V (suc k) upward)) (first no [] N (itself (V (suc k) downward)))
       by (m, q, inr (inr (inr (d, p)))) =
-          just_on t x (λ r. body (U k (direction_behind Start r.0)) r) (λ r. body (gives NoLink) r) (body_within x (subst (λ c. Within (U k c) (gives NoLink)) (sym d) (ended_forth k)))
-          so just_then t x (λ r. body (gives NoLink) r) (λ r. R then λ y. gives (linked (r.0, r.1, y) NoLink)) (in_table (relations_behind Start) unequal t x m e q p) (on R (λ y. given_first NoLink (ending x y) refl))
+          just_on t x (λ r. body (U k (direction_behind Start r.0)) r) (λ r. body (gives (NoLink, None)) r) (body_within x (subst (λ c. Within (U k c) (gives (NoLink, None))) (sym d) (ended_forth k)))
+          so just_then t x (λ r. body (gives (NoLink, None)) r) (λ r. R then last r) (in_table (relations_behind Start) unequal t x m e q p) (on R (last_of x))
           so alone so second no [] (V (suc k) upward) (second no [] (V (suc k) downward) (itself N))
 
   start_forth : (k : ℕ) → Within (U k Start) (Any k)
   start_forth zero = first no [] (none or N) (itself none)
-  start_forth (suc k) = parser_turn k Start (by_token (inl (V_empty (suc k) upward)) (start_token k)) (first no [] _ (second no [] _ (itself (gives NoLink))))
+  start_forth (suc k) = parser_turn k Start (by_token (inl (V_empty (suc k) upward)) (start_token k)) (first no [] _ (second no [] _ (itself (gives (NoLink, None)))))
 
   start_links : Within (links Start) (W upward or W downward or N)
+  unfolding parsed_links
   start_links = at_each (λ k. start_forth k so each no [] no [] (at_some (λ n. V n upward) k) (each no [] no [] (at_some (λ n. V n downward) k) (itself N)))
 
   -- ---- and back
@@ -290,30 +316,49 @@ module _ (ws : Vocabulary) where
   start_alone_back : Within N (links Start)
   start_alone_back = alone_back so by_token (inl (inl refl)) alone_token so to_parser Start
     where
-      by : (t : PlainToken) (x : Relation × Place) → placed (mark_entry unequal) t ≡ Some x → IsEntry Alone t.kind x.0 → (placed (mark_entry (relations_behind Start)) t ≡ Some x) × Within (gives NoLink) (links (direction_behind Start x.0))
-      by t x e (m, q, (p, g)) = (in_table unequal (relations_behind Start) t x m e q p, subst (λ c. Within (gives NoLink) (links c)) (sym g) (ends_parser Ended))
+      by : (t : PlainToken) (x : Relation × Place) → placed (mark_entry unequal) t ≡ Some x → IsEntry Alone t.kind x.0
+          → (placed (mark_entry (relations_behind Start)) t ≡ Some x) × Within (gives (NoLink, None)) (links (direction_behind Start x.0))
+      by t x e (m, q, (p, g)) = (in_table unequal (relations_behind Start) t x m e q p, subst (λ c. Within (gives (NoLink, None)) (links c)) (sym g) (ends_parser Ended))
 
       alone_token : (t : PlainToken) (x : Relation × Place) → placed (mark_entry unequal) t ≡ Some x
-          → Within (just t x then λ r. R then λ y. gives (linked (r.0, r.1, y) NoLink)) (one (placed (mark_entry (relations_behind Start))) then λ r. body (links (direction_behind Start r.0)) r)
+          → Within (just t x then λ r. R then last r) (one (placed (mark_entry (relations_behind Start))) then λ r. body (links (direction_behind Start r.0)) r)
       alone_token t x e =
           let s = by t x e (table_holds Alone unequal t x ((refl, refl), tt) e) in
-          just_then t x (λ r. R then λ y. gives (linked (r.0, r.1, y) NoLink)) (λ r. body (links (direction_behind Start r.0)) r) s.0 (on R (λ y. given_back NoLink (ending x y) so in_turn s.1 (λ rest. itself _)))
+          just_then t x (λ r. R then last r) (λ r. body (links (direction_behind Start r.0)) r) s.0 (on R (of_last x s.1))
 
   -- ---- chains
 
-  abbrev end : Form → FormLinks → Syntax PlainToken Form
-  end x links = gives (chained x links)
+  abbrev end : Form → Spanned FormLinks → Syntax PlainToken (Spanned Form)
+  end x links = gives (chained x links.0, links.1)
 
-  chain_forth : Within (R then λ x. links Start then end x) (production.chain ws)
-  chain_forth =
-      on R (λ x. in_turn start_links (λ ls. itself _) so apart_before no [] (W upward) (W downward or N) (end x) so each no [] no [] (itself _) (apart_before no [] (W downward) N (end x)))
-      so apart_after no [] R (λ x. W upward then end x) (λ x. (W downward then end x) or (N then end x))
-      so each no [] no [] (itself _) (apart_after no [] R (λ x. W downward then end x) (λ x. N then end x))
+  -- what stands behind an operand
+  abbrev All : Spanned Form → Syntax PlainToken (Spanned Form)
+  All x = unended (λ a. links Start then end a) as_it_is x
 
-  chain_back : Within (production.chain ws) (R then λ x. links Start then end x)
-  chain_back =
-      either no [] (on R (λ x. in_turn (at_each start_up_back) (λ ls. itself _)))
-      (either no [] (on R (λ x. in_turn (at_each start_down_back) (λ ls. itself _))) (on R (λ x. in_turn start_alone_back (λ ls. itself _))))
+  abbrev Three : Spanned Form → Syntax PlainToken (Spanned Form)
+  Three x = unended (production.one_way ws upward) as_it_is x or unended (production.one_way ws downward) as_it_is x or unended_only (production.apart ws) x
 
-  pub chain_line : Same (production.bare ws (chain ws)) (production.chain ws)
-  chain_line = same_so (chain_bare ws (shift ws F Z mode.Alone) (shift_none ws F Z)) (both chain_forth chain_back)
+  all_forth : (x : Spanned Form) → Within (All x) (Three x)
+  all_forth (a, None) =
+      in_turn start_links (λ ls. itself _) so apart_before no [] (W upward) (W downward or N) (end a) so each no [] no [] (itself _) (apart_before no [] (W downward) N (end a))
+  all_forth (a, Some e) = first no [] _ (itself _)
+
+  up_in : (x : Spanned Form) → Within (unended (production.one_way ws upward) as_it_is x) (All x)
+  up_in (a, None) = in_turn (at_each start_up_back) (λ ls. itself _)
+  up_in (a, Some e) = itself _
+
+  down_in : (x : Spanned Form) → Within (unended (production.one_way ws downward) as_it_is x) (All x)
+  down_in (a, None) = in_turn (at_each start_down_back) (λ ls. itself _)
+  down_in (a, Some e) = itself _
+
+  apart_in : (x : Spanned Form) → Within (unended_only (production.apart ws) x) (All x)
+  apart_in (a, None) = in_turn start_alone_back (λ ls. itself _)
+  apart_in (a, Some e) = nothing _ refl
+
+  pub chain_line : Same (production.alone ws (chain ws)) (production.chain ws)
+  unfolding chain_of chain_behind
+  chain_line =
+      both
+      (on R all_forth so apart_after no [] R (λ x. unended (production.one_way ws upward) as_it_is x) (λ x. unended (production.one_way ws downward) as_it_is x or unended_only (production.apart ws) x)
+      so each no [] no [] (itself _) (apart_after no [] R (λ x. unended (production.one_way ws downward) as_it_is x) (λ x. unended_only (production.apart ws) x)))
+      (either no [] (on R up_in) (either no [] (on R down_in) (on R apart_in)))

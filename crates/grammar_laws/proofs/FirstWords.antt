@@ -49,6 +49,7 @@ no_logic_word logic.Result k l g h = let e = eqb-true 39 k h in omega (arith, g,
 no_logic_word logic.Old k l g h = let e = eqb-true 40 k h in omega (arith, g, e)
 no_logic_word logic.At k l g h = let e = eqb-true 41 k h in omega (arith, g, e)
 no_logic_word logic.Kept k l g h = let e = eqb-true 5 k h in omega (arith, l, e)
+no_logic_word (logic.Quantifier q) k l g h = let e = eqb-true 42 k h in omega (arith, g, e)
 
 const_only : (w : Word) → eqb (word_kind w) (keyword_kind keyword.Const) ≡ true → w ≡ word.Keyword keyword.Const
 const_only (word.Keyword keyword.Const) e = refl

@@ -2,12 +2,11 @@
 pub mod Inclusions
 pub mod Chains
 pub mod Tokens
-pub mod Spans
-pub mod Ends
 -- what stands in itself
 pub mod ExpressionKnots
 pub mod AnnotationKnots
-pub mod BareLevels
+pub mod AloneLevels
+pub mod Tails
 pub mod SumTurns
 pub mod ZoneLevels
 -- productions

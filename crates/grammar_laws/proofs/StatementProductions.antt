@@ -9,6 +9,7 @@ use Rattle.grammar_laws.proofs.Inclusions.{Within, both, forth, back, itself, �
 use Rattle.grammar_laws.proofs.Inclusions.{either, second, nothing, apart_after, either_before, maybe_back, deeper}
 use Rattle.c_syntax.specs.declared.place.Place.{Place}
 use Rattle.c_syntax.specs.Expressions.{Expression}
+use Rattle.c_syntax.specs.Logic.{Annotation}
 use Rattle.c_syntax.specs.Statements as statement
 use Rattle.c_syntax.specs.Statements.{Statement, NoElse, ForFirst, BlockItem}
 use Rattle.c_syntax.specs.Tokens.{PlainToken}
@@ -17,12 +18,12 @@ use Rattle.c_model.specs.declared.vocabulary.Keyword.TheVariants as keyword
 use Rattle.c_model.specs.Vocabulary.{Vocabulary}
 use Rattle.c_model.specs.Punctuators.{semicolon, colon, left_paren, right_paren, left_brace}
 use Rattle.c_model.specs.Terminals.{nesting_limit}
-use Rattle.c_model.specs.Library.{is_there}
-use Rattle.c_model.specs.ClauseGrammar.{ReadAnnotation, annotations}
+use Rattle.c_model.specs.ClauseGrammar.{ReadAnnotation, Assertions, Contracted, Looped, annotations}
 use Rattle.c_model.specs.ExpressionGrammar.{name_kind, annot_open_kind, keyword_kind, mark_kind, kind, first_type, first_expression, mark, reserved}
 use Rattle.c_model.specs.ExpressionGrammar.{closed, name, full_expression, full_nameless_expression, full_expression_behind}
 use Rattle.c_model.specs.DeclarationGrammar.{ended}
-use Rattle.c_model.specs.ProgramGrammar.{Numbered, ReadCase, first_statement, first_item, first_branch, first_case, is_open, after_placed, after_misplaced, statement_of, branch_of, statement_in, branch_in, inside_in}
+use Rattle.c_model.specs.ProgramGrammar.{Numbered, Annotated, Looping, ReadCase, first_statement, first_loop, first_item, first_branch, first_case, is_open, after_placed, after_misplaced, after_loop}
+use Rattle.c_model.specs.ProgramGrammar.{statement_of, branch_of, statement_in, branch_in, behind_in, inside_in}
 use Rattle.c_model.specs.ProgramGrammar as parsed
 use Rattle.grammar_laws.specs.StatementProductions as production
 
@@ -40,36 +41,43 @@ module _ (ws : Vocabulary) where
 
   -- what stands behind an annotation, for asserts and for a contract
   abbrev AsAsserts : AnnotationState → ReadAnnotation × ℕ → Syntax PlainToken Itemized
-  AsAsserts n x = only (not (is_there x.0.1)) (gives (statement.Asserts x.0.0, after_placed n x.1))
+  AsAsserts n x = only (production.are_asserts x.0) (gives (statement.Asserts (production.asserts_of x.0), after_placed n x.1))
 
-  abbrev AsContract : Numbered → AnnotationState → ReadAnnotation × ℕ → Syntax PlainToken Itemized
-  AsContract B n x = only (is_there x.0.1) (B (after_misplaced n x) then λ y. gives (statement.Run y.0, y.1))
+  abbrev AsOther : Annotated → AnnotationState → ReadAnnotation × ℕ → Syntax PlainToken Itemized
+  AsOther B n x = only (not (production.are_asserts x.0)) (B x n then λ y. gives (statement.Run y.0, y.1))
 
-  module _ (B : Numbered) (n : AnnotationState) where
-    behind_note : (x : ReadAnnotation × ℕ) → Within (parsed.behind_annotation ws B n x) (AsAsserts n x or AsContract B n x)
+  -- nothing is read of no token
+  abbrev Begins : Annotated → Type 0
+  Begins B = (x : ReadAnnotation × ℕ) (m : AnnotationState) → (B x m).begun []
+
+  module _ (B : Annotated) (n : AnnotationState) where
+    behind_note : (x : ReadAnnotation × ℕ) → Within (parsed.behind_annotation ws B n x) (AsAsserts n x or AsOther B n x)
     unfolding parsed.behind_annotation parsed.run_item
-    behind_note ((a, None), k) = first no [] none (itself _)
-    behind_note ((a, Some c), k) = second no [] none (itself _)
+    behind_note (Assertions a, k) = first no [] none (itself _)
+    behind_note (Contracted c, k) = second no [] none (itself _)
+    behind_note (Looped l, k) = second no [] none (itself _)
 
-    asserts_back : (x : ReadAnnotation × ℕ) → ((m : AnnotationState) → (B m).begun []) → Within (AsAsserts n x) (parsed.behind_annotation ws B n x)
+    asserts_back : (x : ReadAnnotation × ℕ) → Begins B → Within (AsAsserts n x) (parsed.behind_annotation ws B n x)
     unfolding parsed.behind_annotation parsed.run_item
-    asserts_back ((a, None), k) empty = itself _
-    asserts_back ((a, Some c), k) empty = nothing _ (inl (empty _))
+    asserts_back (Assertions a, k) empty = itself _
+    asserts_back (Contracted c, k) empty = nothing _ (inl (empty (Contracted c, k) n))
+    asserts_back (Looped l, k) empty = nothing _ (inl (empty (Looped l, k) n))
 
-    contract_back : (x : ReadAnnotation × ℕ) → Within (AsContract B n x) (parsed.behind_annotation ws B n x)
+    other_back : (x : ReadAnnotation × ℕ) → Within (AsOther B n x) (parsed.behind_annotation ws B n x)
     unfolding parsed.behind_annotation parsed.run_item
-    contract_back ((a, None), k) = nothing _ refl
-    contract_back ((a, Some c), k) = itself _
+    other_back (Assertions a, k) = nothing _ refl
+    other_back (Contracted c, k) = itself _
+    other_back (Looped l, k) = itself _
 
-    annotated_forth : Within (parsed.annotated_item ws B n) (production.asserts ws n or production.behind_contract ws B n)
+    annotated_forth : Within (parsed.annotated_item ws B n) (production.asserts ws n or production.annotated ws B n)
     unfolding parsed.annotated_item
-    annotated_forth = on (annotations ws n.number) behind_note so apart_after no [] (annotations ws n.number) (AsAsserts n) (AsContract B n)
+    annotated_forth = on (annotations ws n.number) behind_note so apart_after no [] (annotations ws n.number) (AsAsserts n) (AsOther B n)
 
-    annotated_back : ((m : AnnotationState) → (B m).begun []) → Within (production.asserts ws n or production.behind_contract ws B n) (parsed.annotated_item ws B n)
+    annotated_back : Begins B → Within (production.asserts ws n or production.annotated ws B n) (parsed.annotated_item ws B n)
     unfolding parsed.annotated_item
-    annotated_back empty = either no [] (on (annotations ws n.number) (λ x. asserts_back x empty)) (on (annotations ws n.number) contract_back)
+    annotated_back empty = either no [] (on (annotations ws n.number) (λ x. asserts_back x empty)) (on (annotations ws n.number) other_back)
 
-  pub item_line : (T B : Numbered) (n : AnnotationState) → ((m : AnnotationState) → (B m).begun []) → Same (parsed.item ws T B n) (production.item ws T B n)
+  pub item_line : (T : Numbered) (B : Annotated) (n : AnnotationState) → Begins B → Same (parsed.item ws T B n) (production.item ws T B n)
   unfolding parsed.item parsed.run_item
   item_line T B n empty =
       both (either (kind ws) (annot_open_kind ∷ []) (annotated_forth B n so either no [] (first no [] _ (itself _)) (second no [] _ (first no [] _ (itself _))))
@@ -78,12 +86,12 @@ module _ (ws : Vocabulary) where
       (either no [] (second no [] _ (itself _) so annotated_back B n empty so first (kind ws) (annot_open_kind ∷ []) _ (itself _))
       (second (kind ws) (annot_open_kind ∷ []) _ (each no [] (kind ws) first_type (itself _) (itself _)))))
 
-  pub items_line : (T B : Numbered) (n : AnnotationState) → Same (parsed.items ws T B ([], n)) (production.items ws T B n)
+  pub items_line : (T : Numbered) (B : Annotated) (n : AnnotationState) → Same (parsed.items ws T B ([], n)) (production.items ws T B n)
   unfolding parsed.items parsed.items_once
   items_line T B n =
       both (turns (kind ws) (λ _. first_item) no (λ _. []) (λ y. itself _) ([], n)) (turns no (λ _. []) (kind ws) (λ _. first_item) (λ y. itself _) ([], n))
 
-  block_line : (T B : Numbered) (n : AnnotationState) → Same (parsed.block ws T B n) (production.block ws T B n)
+  block_line : (T : Numbered) (B : Annotated) (n : AnnotationState) → Same (parsed.block ws T B n) (production.block ws T B n)
   unfolding parsed.block
   block_line T B n =
       both (on (mark ws left_brace) (λ at. in_turn (forth (items_line T B n)) (λ x. itself _))) (on (mark ws left_brace) (λ at. in_turn (back (items_line T B n)) (λ x. itself _)))
@@ -113,48 +121,48 @@ module _ (ws : Vocabulary) where
       (each no [] (kind ws) first_type (itself _) (each no [] (kind ws) first_expression (itself _) (itself _)))
 
   -- after the first part of `for`
-  abbrev turned : Numbered → Place → ForFirst × AnnotationState → Option Expression → Option Expression → Syntax PlainToken Stated
-  turned S at first e behind = S first.1 then λ x. gives (statement.For at [] first.0 e behind x.0, x.1)
+  abbrev turned : Numbered → List Annotation → Place → ForFirst × AnnotationState → Option Expression → Option Expression → Syntax PlainToken Stated
+  turned S annots at first e behind = S first.1 then λ x. gives (statement.For at annots first.0 e behind x.0, x.1)
 
   abbrev Behind : Syntax PlainToken (Option Expression)
   Behind = production.maybe ws (full_expression ws)
 
-  behind_forth : (S : Numbered) (at : Place) (first : ForFirst × AnnotationState) (e : Option Expression) → (S first.1).begun []
-      → Within (parsed.for_behind ws then turned S at first e) (Behind then λ behind. mark ws right_paren then λ _. turned S at first e behind)
+  behind_forth : (S : Numbered) (annots : List Annotation) (at : Place) (first : ForFirst × AnnotationState) (e : Option Expression) → (S first.1).begun []
+      → Within (parsed.for_behind ws then turned S annots at first e) (Behind then λ behind. mark ws right_paren then λ _. turned S annots at first e behind)
   unfolding parsed.for_behind closed
-  behind_forth S at first e empty = maybe_forth (kind ws) first_expression no [] (full_expression ws) (mark ws right_paren) Some None (turned S at first e) (λ b. inl empty)
+  behind_forth S annots at first e empty = maybe_forth (kind ws) first_expression no [] (full_expression ws) (mark ws right_paren) Some None (turned S annots at first e) (λ b. inl empty)
 
-  behind_back : (S : Numbered) (at : Place) (first : ForFirst × AnnotationState) (e : Option Expression)
-      → Within (Behind then λ behind. mark ws right_paren then λ _. turned S at first e behind) (parsed.for_behind ws then turned S at first e)
+  behind_back : (S : Numbered) (annots : List Annotation) (at : Place) (first : ForFirst × AnnotationState) (e : Option Expression)
+      → Within (Behind then λ behind. mark ws right_paren then λ _. turned S annots at first e behind) (parsed.for_behind ws then turned S annots at first e)
   unfolding parsed.for_behind closed
-  behind_back S at first e = maybe_back (kind ws) first_expression no [] (full_expression ws) (mark ws right_paren) Some None (turned S at first e) (inl refl)
+  behind_back S annots at first e = maybe_back (kind ws) first_expression no [] (full_expression ws) (mark ws right_paren) Some None (turned S annots at first e) (inl refl)
 
   behind_empty : (parsed.for_behind ws).begun []
   unfolding parsed.for_behind closed
   behind_empty = inr (inl (inl refl))
 
-  while_forth : (S : Numbered) (at : Place) (first : ForFirst × AnnotationState)
-      → Within (parsed.maybe_ended ws then λ e. parsed.for_behind ws then turned S at first e)
-      (production.maybe ws (full_expression ws) then λ e. mark ws semicolon then λ _. parsed.for_behind ws then turned S at first e)
+  while_forth : (S : Numbered) (annots : List Annotation) (at : Place) (first : ForFirst × AnnotationState)
+      → Within (parsed.maybe_ended ws then λ e. parsed.for_behind ws then turned S annots at first e)
+      (production.maybe ws (full_expression ws) then λ e. mark ws semicolon then λ _. parsed.for_behind ws then turned S annots at first e)
   unfolding parsed.maybe_ended ended
-  while_forth S at first =
-      maybe_forth (kind ws) first_expression no [] (full_expression ws) (mark ws semicolon) Some None (λ e. parsed.for_behind ws then turned S at first e) (λ e. inl behind_empty)
+  while_forth S annots at first =
+      maybe_forth (kind ws) first_expression no [] (full_expression ws) (mark ws semicolon) Some None (λ e. parsed.for_behind ws then turned S annots at first e) (λ e. inl behind_empty)
 
-  while_back : (S : Numbered) (at : Place) (first : ForFirst × AnnotationState)
-      → Within (production.maybe ws (full_expression ws) then λ e. mark ws semicolon then λ _. parsed.for_behind ws then turned S at first e)
-      (parsed.maybe_ended ws then λ e. parsed.for_behind ws then turned S at first e)
+  while_back : (S : Numbered) (annots : List Annotation) (at : Place) (first : ForFirst × AnnotationState)
+      → Within (production.maybe ws (full_expression ws) then λ e. mark ws semicolon then λ _. parsed.for_behind ws then turned S annots at first e)
+      (parsed.maybe_ended ws then λ e. parsed.for_behind ws then turned S annots at first e)
   unfolding parsed.maybe_ended ended
-  while_back S at first =
-      maybe_back (kind ws) first_expression no [] (full_expression ws) (mark ws semicolon) Some None (λ e. parsed.for_behind ws then turned S at first e) (inl refl)
+  while_back S annots at first =
+      maybe_back (kind ws) first_expression no [] (full_expression ws) (mark ws semicolon) Some None (λ e. parsed.for_behind ws then turned S annots at first e) (inl refl)
 
-  for_line : (S : Numbered) (n : AnnotationState) → ((m : AnnotationState) → (S m).begun []) → Same (parsed.for_loop ws S n) (production.for_loop ws S n)
+  for_line : (S : Numbered) (annots : List Annotation) (n : AnnotationState) → ((m : AnnotationState) → (S m).begun []) → Same (parsed.for_loop ws S annots n) (production.for_loop ws S annots n)
   unfolding parsed.for_loop
-  for_line S n empty =
+  for_line S annots n empty =
       both
       (on (reserved ws keyword.For) (λ at. on (mark ws left_paren) (λ _. in_turn (forth (for_first_line n)) (λ first.
-      while_forth S at first so on (production.maybe ws (full_expression ws)) (λ e. on (mark ws semicolon) (λ _. behind_forth S at first e (empty first.1)))))))
+      while_forth S annots at first so on (production.maybe ws (full_expression ws)) (λ e. on (mark ws semicolon) (λ _. behind_forth S annots at first e (empty first.1)))))))
       (on (reserved ws keyword.For) (λ at. on (mark ws left_paren) (λ _. in_turn (back (for_first_line n)) (λ first.
-      on (production.maybe ws (full_expression ws)) (λ e. on (mark ws semicolon) (λ _. behind_back S at first e)) so while_back S at first))))
+      on (production.maybe ws (full_expression ws)) (λ e. on (mark ws semicolon) (λ _. behind_back S annots at first e)) so while_back S annots at first))))
 
   abbrev returning : AnnotationState → Place → Option Expression → Syntax PlainToken Stated
   returning n at e = gives (statement.Return at e, n)
@@ -169,9 +177,15 @@ module _ (ws : Vocabulary) where
   unfolding parsed.jump ended
   jump_line n = both (each (kind ws) (keyword_kind keyword.Break ∷ []) no [] (itself _) (itself _)) (each no [] (kind ws) (keyword_kind keyword.Break ∷ []) (itself _) (itself _))
 
-  while_line : (S : Numbered) (n : AnnotationState) → Same (parsed.while_loop ws S n) (production.while_loop ws S n)
+  while_line : (S : Numbered) (annots : List Annotation) (n : AnnotationState) → Same (parsed.while_loop ws S annots n) (production.while_loop ws S annots n)
   unfolding parsed.while_loop parsed.condition closed
-  while_line S n = both (itself _) (itself _)
+  while_line S annots n = both (itself _) (itself _)
+
+  loop_line : (S : Numbered) (annots : List Annotation) (n : AnnotationState) → ((m : AnnotationState) → (S m).begun []) → Same (parsed.loop_of ws S annots n) (production.loop ws S annots n)
+  unfolding parsed.loop_of
+  loop_line S annots n empty =
+      both (each (kind ws) (keyword_kind keyword.While ∷ []) no [] (forth (while_line S annots n)) (forth (for_line S annots n empty)))
+      (each no [] (kind ws) (keyword_kind keyword.While ∷ []) (back (while_line S annots n)) (back (for_line S annots n empty)))
 
   do_line : (S : Numbered) (n : AnnotationState) → Same (parsed.do_loop ws S n) (production.do_loop ws S n)
   unfolding parsed.do_loop parsed.condition closed ended
@@ -230,7 +244,7 @@ module _ (ws : Vocabulary) where
   unfolding parsed.case_label parsed.valued_case parsed.default_case
   label_line = both (each (kind ws) (keyword_kind keyword.Case ∷ []) no [] (itself _) (itself _)) (each no [] (kind ws) (keyword_kind keyword.Case ∷ []) (itself _) (itself _))
 
-  module _ (T B : Numbered) (empty : (m : AnnotationState) → (B m).begun []) where
+  module _ (T : Numbered) (B : Annotated) (empty : Begins B) where
     case_item_line : (n : AnnotationState) → Same (parsed.case_item ws T B n) (production.case_item ws T B n)
     unfolding parsed.case_item parsed.run_item
     case_item_line n =
@@ -261,63 +275,75 @@ module _ (ws : Vocabulary) where
         both (on (reserved ws keyword.Switch) (λ at. on (production.condition ws) (λ e. on (mark ws left_brace) (λ _. in_turn (forth (cases_line n)) (λ x. itself _)))))
         (on (reserved ws keyword.Switch) (λ at. on (production.condition ws) (λ e. on (mark ws left_brace) (λ _. in_turn (back (cases_line n)) (λ x. itself _)))))
 
-  one_of : (T B S : Numbered) (n : AnnotationState) → ((m : AnnotationState) → (B m).begun []) → ((m : AnnotationState) → (S m).begun [])
-      → Same (statement_of ws T B S n) (production.stmt ws T B S n)
-  unfolding statement_of
-  one_of T B S n empty begins =
+  unlooped_line : (T : Numbered) (B : Annotated) (S : Numbered) (n : AnnotationState) → Begins B → Same (parsed.unlooped_of ws T B S n) (production.unlooped ws T B S n)
+  unfolding parsed.unlooped_of
+  unlooped_line T B S n empty =
       both
       (either (kind ws) (mark_kind left_brace ∷ []) (first no [] _ (forth (block_line T B n)))
       (either (kind ws) (mark_kind semicolon ∷ []) (second no [] _ (first no [] _ (forth (empty_line n))))
       (either (kind ws) (keyword_kind keyword.If ∷ []) (second no [] _ (second no [] _ (second no [] _ (second no [] _ (first no [] _ (forth (selection_line S n)))))))
-      (either (kind ws) (keyword_kind keyword.While ∷ []) (second no [] _ (second no [] _ (second no [] _ (second no [] _ (second no [] _ (first no [] _ (forth (while_line S n))))))))
-      (either (kind ws) (keyword_kind keyword.Do ∷ []) (second no [] _ (second no [] _ (second no [] _ (second no [] _ (second no [] _ (second no [] _ (first no [] _ (forth (do_line S n)))))))))
-      (either (kind ws) (keyword_kind keyword.For ∷ []) (second no [] _ (second no [] _ (second no [] _ (second no [] _ (second no [] _ (second no [] _ (second no [] _ (first no [] _ (forth (for_line S n begins))))))))))
-      (either (kind ws) (keyword_kind keyword.Switch ∷ []) (second no [] _ (second no [] _ (second no [] _ (second no [] _ (second no [] _ (second no [] _ (second no [] _ (second no [] _ (first no [] _ (forth (switch_line T B empty n)))))))))))
-      (either (kind ws) (keyword_kind keyword.Return ∷ []) (second no [] _ (second no [] _ (second no [] _ (second no [] _ (second no [] _ (second no [] _ (second no [] _ (second no [] _ (second no [] _
-      (second no [] _ (forth (return_line n))))))))))))
-      (either (kind ws) (keyword_kind keyword.Break ∷ keyword_kind keyword.Continue ∷ []) (second no [] _ (second no [] _ (second no [] _ (second no [] _ (second no [] _ (second no [] _ (second no [] _ (second no [] _
-      (second no [] _ (first no [] _ (forth (jump_line n))))))))))))
-      (last_forth S n so either no [] (second no [] _ (second no [] _ (first no [] _ (itself _)))) (second no [] _ (second no [] _ (second no [] _ (first no [] _ (itself _)))))))))))))))
+      (either (kind ws) (keyword_kind keyword.Do ∷ []) (second no [] _ (second no [] _ (second no [] _ (second no [] _ (second no [] _ (first no [] _ (forth (do_line S n))))))))
+      (either (kind ws) (keyword_kind keyword.Switch ∷ []) (second no [] _ (second no [] _ (second no [] _ (second no [] _ (second no [] _ (second no [] _ (first no [] _ (forth (switch_line T B empty n)))))))))
+      (either (kind ws) (keyword_kind keyword.Return ∷ []) (second no [] _ (second no [] _ (second no [] _ (second no [] _ (second no [] _ (second no [] _ (second no [] _ (second no [] _ (forth (return_line n))))))))))
+      (either (kind ws) (keyword_kind keyword.Break ∷ keyword_kind keyword.Continue ∷ []) (second no [] _ (second no [] _ (second no [] _ (second no [] _ (second no [] _ (second no [] _ (second no [] _ (first no [] _ (forth (jump_line n))))))))))
+      (last_forth S n so either no [] (second no [] _ (second no [] _ (first no [] _ (itself _)))) (second no [] _ (second no [] _ (second no [] _ (first no [] _ (itself _)))))))))))))
       (either no [] (first (kind ws) (mark_kind left_brace ∷ []) _ (back (block_line T B n)))
       (either no [] (second (kind ws) (mark_kind left_brace ∷ []) _ (first (kind ws) (mark_kind semicolon ∷ []) _ (back (empty_line n))))
-      (either no [] (second (kind ws) (mark_kind left_brace ∷ []) _ (second (kind ws) (mark_kind semicolon ∷ []) _ (second (kind ws) (keyword_kind keyword.If ∷ []) _ (second (kind ws) (keyword_kind keyword.While ∷ []) _
-      (second (kind ws) (keyword_kind keyword.Do ∷ []) _ (second (kind ws) (keyword_kind keyword.For ∷ []) _ (second (kind ws) (keyword_kind keyword.Switch ∷ []) _ (second (kind ws) (keyword_kind keyword.Return ∷ []) _
-      (second (kind ws) (keyword_kind keyword.Break ∷ keyword_kind keyword.Continue ∷ []) _ (effect_back S n))))))))))
-      (either no [] (second (kind ws) (mark_kind left_brace ∷ []) _ (second (kind ws) (mark_kind semicolon ∷ []) _ (second (kind ws) (keyword_kind keyword.If ∷ []) _ (second (kind ws) (keyword_kind keyword.While ∷ []) _
-      (second (kind ws) (keyword_kind keyword.Do ∷ []) _ (second (kind ws) (keyword_kind keyword.For ∷ []) _ (second (kind ws) (keyword_kind keyword.Switch ∷ []) _ (second (kind ws) (keyword_kind keyword.Return ∷ []) _
-      (second (kind ws) (keyword_kind keyword.Break ∷ keyword_kind keyword.Continue ∷ []) _ (labelled_back S n))))))))))
+      (either no [] (second (kind ws) (mark_kind left_brace ∷ []) _ (second (kind ws) (mark_kind semicolon ∷ []) _
+      (second (kind ws) (keyword_kind keyword.If ∷ []) _ (second (kind ws) (keyword_kind keyword.Do ∷ []) _ (second (kind ws) (keyword_kind keyword.Switch ∷ []) _
+      (second (kind ws) (keyword_kind keyword.Return ∷ []) _ (second (kind ws) (keyword_kind keyword.Break ∷ keyword_kind keyword.Continue ∷ []) _ (effect_back S n))))))))
+      (either no [] (second (kind ws) (mark_kind left_brace ∷ []) _ (second (kind ws) (mark_kind semicolon ∷ []) _
+      (second (kind ws) (keyword_kind keyword.If ∷ []) _ (second (kind ws) (keyword_kind keyword.Do ∷ []) _ (second (kind ws) (keyword_kind keyword.Switch ∷ []) _
+      (second (kind ws) (keyword_kind keyword.Return ∷ []) _ (second (kind ws) (keyword_kind keyword.Break ∷ keyword_kind keyword.Continue ∷ []) _ (labelled_back S n))))))))
       (either no [] (second (kind ws) (mark_kind left_brace ∷ []) _ (second (kind ws) (mark_kind semicolon ∷ []) _ (first (kind ws) (keyword_kind keyword.If ∷ []) _ (back (selection_line S n)))))
-      (either no [] (second (kind ws) (mark_kind left_brace ∷ []) _ (second (kind ws) (mark_kind semicolon ∷ []) _ (second (kind ws) (keyword_kind keyword.If ∷ []) _ (first (kind ws) (keyword_kind keyword.While ∷ []) _ (back (while_line S n))))))
-      (either no [] (second (kind ws) (mark_kind left_brace ∷ []) _ (second (kind ws) (mark_kind semicolon ∷ []) _ (second (kind ws) (keyword_kind keyword.If ∷ []) _ (second (kind ws) (keyword_kind keyword.While ∷ []) _
-      (first (kind ws) (keyword_kind keyword.Do ∷ []) _ (back (do_line S n)))))))
-      (either no [] (second (kind ws) (mark_kind left_brace ∷ []) _ (second (kind ws) (mark_kind semicolon ∷ []) _ (second (kind ws) (keyword_kind keyword.If ∷ []) _ (second (kind ws) (keyword_kind keyword.While ∷ []) _
-      (second (kind ws) (keyword_kind keyword.Do ∷ []) _ (first (kind ws) (keyword_kind keyword.For ∷ []) _ (back (for_line S n begins))))))))
-      (either no [] (second (kind ws) (mark_kind left_brace ∷ []) _ (second (kind ws) (mark_kind semicolon ∷ []) _ (second (kind ws) (keyword_kind keyword.If ∷ []) _ (second (kind ws) (keyword_kind keyword.While ∷ []) _
-      (second (kind ws) (keyword_kind keyword.Do ∷ []) _ (second (kind ws) (keyword_kind keyword.For ∷ []) _ (first (kind ws) (keyword_kind keyword.Switch ∷ []) _ (back (switch_line T B empty n)))))))))
-      (either no [] (second (kind ws) (mark_kind left_brace ∷ []) _ (second (kind ws) (mark_kind semicolon ∷ []) _ (second (kind ws) (keyword_kind keyword.If ∷ []) _ (second (kind ws) (keyword_kind keyword.While ∷ []) _
-      (second (kind ws) (keyword_kind keyword.Do ∷ []) _ (second (kind ws) (keyword_kind keyword.For ∷ []) _ (second (kind ws) (keyword_kind keyword.Switch ∷ []) _ (second (kind ws) (keyword_kind keyword.Return ∷ []) _
-      (first (kind ws) (keyword_kind keyword.Break ∷ keyword_kind keyword.Continue ∷ []) _ (back (jump_line n)))))))))))
-      (second (kind ws) (mark_kind left_brace ∷ []) _ (second (kind ws) (mark_kind semicolon ∷ []) _ (second (kind ws) (keyword_kind keyword.If ∷ []) _ (second (kind ws) (keyword_kind keyword.While ∷ []) _
-      (second (kind ws) (keyword_kind keyword.Do ∷ []) _ (second (kind ws) (keyword_kind keyword.For ∷ []) _ (second (kind ws) (keyword_kind keyword.Switch ∷ []) _
-      (first (kind ws) (keyword_kind keyword.Return ∷ []) _ (back (return_line n))))))))))))))))))))
+      (either no [] (second (kind ws) (mark_kind left_brace ∷ []) _ (second (kind ws) (mark_kind semicolon ∷ []) _ (second (kind ws) (keyword_kind keyword.If ∷ []) _ (first (kind ws) (keyword_kind keyword.Do ∷ []) _ (back (do_line S n))))))
+      (either no [] (second (kind ws) (mark_kind left_brace ∷ []) _ (second (kind ws) (mark_kind semicolon ∷ []) _
+      (second (kind ws) (keyword_kind keyword.If ∷ []) _ (second (kind ws) (keyword_kind keyword.Do ∷ []) _ (first (kind ws) (keyword_kind keyword.Switch ∷ []) _ (back (switch_line T B empty n)))))))
+      (either no [] (second (kind ws) (mark_kind left_brace ∷ []) _ (second (kind ws) (mark_kind semicolon ∷ []) _
+      (second (kind ws) (keyword_kind keyword.If ∷ []) _ (second (kind ws) (keyword_kind keyword.Do ∷ []) _ (second (kind ws) (keyword_kind keyword.Switch ∷ []) _
+      (second (kind ws) (keyword_kind keyword.Return ∷ []) _ (first (kind ws) (keyword_kind keyword.Break ∷ keyword_kind keyword.Continue ∷ []) _ (back (jump_line n)))))))))
+      (second (kind ws) (mark_kind left_brace ∷ []) _ (second (kind ws) (mark_kind semicolon ∷ []) _ (second (kind ws) (keyword_kind keyword.If ∷ []) _
+      (second (kind ws) (keyword_kind keyword.Do ∷ []) _ (second (kind ws) (keyword_kind keyword.Switch ∷ []) _ (first (kind ws) (keyword_kind keyword.Return ∷ []) _ (back (return_line n))))))))))))))))
 
-  statement_of_empty : (T B S : Numbered) (n : AnnotationState) → (statement_of ws T B S n).begun []
-  unfolding statement_of parsed.block
-  statement_of_empty T B S n = inl (inl (inl refl))
+  one_of : (T : Numbered) (B : Annotated) (S : Numbered) (n : AnnotationState) → Begins B → ((m : AnnotationState) → (S m).begun []) → Same (statement_of ws T B S n) (production.stmt ws T B S n)
+  unfolding statement_of
+  one_of T B S n empty begins =
+      let l = loop_line S [] n begins in
+      let u = unlooped_line T B S n empty in
+      both (each (kind ws) first_loop no [] (forth l) (forth u)) (each no [] (kind ws) first_loop (back l) (back u))
+
+  unlooped_empty : (T : Numbered) (B : Annotated) (S : Numbered) (n : AnnotationState) → (parsed.unlooped_of ws T B S n).begun []
+  unfolding parsed.unlooped_of parsed.block
+  unlooped_empty T B S n = inl (inl (inl refl))
+
+  statement_of_empty : (T : Numbered) (B : Annotated) (S : Numbered) (n : AnnotationState) → (statement_of ws T B S n).begun []
+  unfolding statement_of
+  statement_of_empty T B S n = inr (unlooped_empty T B S n)
+
+  too_deep_empty : (n : AnnotationState) → (parsed.too_deep ws n).begun []
+  unfolding parsed.too_deep branch_of
+  too_deep_empty n = inr (statement_of_empty (λ m. none) (λ x m. none) (λ m. none) n)
 
   branch_empty : (d : ℕ) (n : AnnotationState) → (branch_in ws d n).begun []
   unfolding branch_in branch_of
-  branch_empty zero n = inr (statement_of_empty (λ m. none) (λ m. none) (λ m. none) n)
+  branch_empty zero n = too_deep_empty n
   branch_empty (suc d) n = inr (statement_of_empty (statement_in ws d) (inside_in ws d) (branch_in ws d) n)
 
-  pub inside_empty : (d : ℕ) (n : AnnotationState) → (inside_in ws d n).begun []
-  unfolding branch_in branch_of
-  inside_empty zero n = inr (statement_of_empty (λ m. none) (λ m. none) (λ m. none) n)
-  inside_empty (suc d) n = branch_empty d n
+  inner_empty : (d : ℕ) → Begins (behind_in ws d)
+  unfolding branch_in branch_of parsed.inside_of
+  inner_empty zero x n = too_deep_empty (after_misplaced n x)
+  inner_empty (suc d) (Assertions a, k) n = inr (statement_of_empty (statement_in ws d) (inside_in ws d) (branch_in ws d) (after_misplaced n (Assertions a, k)))
+  inner_empty (suc d) (Contracted c, k) n = inr (statement_of_empty (statement_in ws d) (inside_in ws d) (branch_in ws d) (after_misplaced n (Contracted c, k)))
+  inner_empty (suc d) (Looped l, k) n = inr (inr (unlooped_empty (statement_in ws d) (inside_in ws d) (branch_in ws d) (after_misplaced n (Looped l, k))))
 
-  pub inside_line : (d : ℕ) (n : AnnotationState) → Same (inside_in ws (suc d) n) (branch_in ws d n)
+  pub inside_empty : (d : ℕ) → Begins (inside_in ws d)
   unfolding branch_in
-  inside_line d n = both (itself _) (itself _)
+  inside_empty zero x n = too_deep_empty (after_misplaced n x)
+  inside_empty (suc d) x n = inner_empty d x n
+
+  pub behind_line : (d : ℕ) (x : ReadAnnotation × ℕ) (n : AnnotationState) → Same (inside_in ws (suc d) x n) (behind_in ws d x n)
+  unfolding branch_in
+  behind_line d x n = both (itself _) (itself _)
 
   in_depth : (d : ℕ) (n : AnnotationState) → Same (statement_in ws (suc d) n) (statement_of ws (statement_in ws d) (inside_in ws d) (branch_in ws d) n)
   unfolding statement_in
@@ -328,21 +354,48 @@ module _ (ws : Vocabulary) where
       let s = one_of (statement_in ws d) (inside_in ws d) (branch_in ws d) n (inside_empty d) (branch_empty d) in
       both (forth (in_depth d n) so forth s) (back s so back (in_depth d n))
 
-  pub deepest_line : (n : AnnotationState) → Same (statement_in ws zero n) (deep nesting_limit no [] (production.stmt ws (λ m. none) (λ m. none) (λ m. none) n))
+  pub deepest_line : (n : AnnotationState) → Same (statement_in ws zero n) (deep nesting_limit no [] (production.stmt ws (λ m. none) (λ x m. none) (λ m. none) n))
   unfolding statement_in
   deepest_line n =
-      let s = one_of (λ m. none) (λ m. none) (λ m. none) n (λ m. refl) (λ m. refl) in
+      let s = one_of (λ m. none) (λ x m. none) (λ m. none) n (λ x m. refl) (λ m. refl) in
       both (deeper nesting_limit (kind ws) first_statement no [] (forth s)) (deeper nesting_limit no [] (kind ws) first_statement (back s))
 
-  branch_choice : (T S : Numbered) (n : AnnotationState) → Same (branch_of ws T S n) (production.branch ws T S n)
+  branch_choice : (T : Numbered) (A : Annotated) (n : AnnotationState) → Same (branch_of ws T A n) (production.branch ws T A n)
   unfolding branch_of
-  branch_choice T S n = both (each (kind ws) (annot_open_kind ∷ []) no [] (itself _) (itself _)) (each no [] (kind ws) (annot_open_kind ∷ []) (itself _) (itself _))
+  branch_choice T A n = both (each (kind ws) (annot_open_kind ∷ []) no [] (itself _) (itself _)) (each no [] (kind ws) (annot_open_kind ∷ []) (itself _) (itself _))
 
-  branch_in_depth : (d : ℕ) (n : AnnotationState) → Same (branch_in ws (suc d) n) (branch_of ws (statement_in ws (suc d)) (branch_in ws d) n)
+  branch_in_depth : (d : ℕ) (n : AnnotationState) → Same (branch_in ws (suc d) n) (branch_of ws (statement_in ws (suc d)) (behind_in ws d) n)
   unfolding branch_in statement_in
   branch_in_depth d n = both (itself _) (itself _)
 
-  pub branch_line : (d : ℕ) (n : AnnotationState) → Same (branch_in ws (suc d) n) (production.branch ws (statement_in ws (suc d)) (branch_in ws d) n)
+  pub branch_line : (d : ℕ) (n : AnnotationState) → Same (branch_in ws (suc d) n) (production.branch ws (statement_in ws (suc d)) (behind_in ws d) n)
   branch_line d n =
-      let s = branch_choice (statement_in ws (suc d)) (branch_in ws d) n in
+      let s = branch_choice (statement_in ws (suc d)) (behind_in ws d) n in
       both (forth (branch_in_depth d n) so forth s) (back s so back (branch_in_depth d n))
+
+  -- what stands behind an annotation
+  inside_choice : (W W' : Looping) (T U U' : Numbered) (A : Annotated) → ((annots : List Annotation) (m : AnnotationState) → Same (W annots m) (W' annots m)) → ((m : AnnotationState) → Same (U m) (U' m))
+      → (x : ReadAnnotation × ℕ) (n : AnnotationState) → Same (parsed.inside_of ws W T U A x n) (production.inside ws W' T U' A x n)
+  unfolding parsed.inside_of branch_of
+  inside_choice W W' T U U' A w u (Assertions a, k) n = both (each (kind ws) (annot_open_kind ∷ []) no [] (itself _) (itself _)) (each no [] (kind ws) (annot_open_kind ∷ []) (itself _) (itself _))
+  inside_choice W W' T U U' A w u (Contracted c, k) n = both (each (kind ws) (annot_open_kind ∷ []) no [] (itself _) (itself _)) (each no [] (kind ws) (annot_open_kind ∷ []) (itself _) (itself _))
+  inside_choice W W' T U U' A w u (Looped l, k) n =
+      both
+      (each (kind ws) first_loop no [] (forth (w l.clauses (after_loop n l k))) (each (kind ws) (annot_open_kind ∷ []) no [] (itself _) (forth (u (after_misplaced n (Looped l, k))))))
+      (each no [] (kind ws) first_loop (back (w l.clauses (after_loop n l k))) (each no [] (kind ws) (annot_open_kind ∷ []) (itself _) (back (u (after_misplaced n (Looped l, k))))))
+
+  inside_in_depth : (d : ℕ) (x : ReadAnnotation × ℕ) (n : AnnotationState)
+      → Same (behind_in ws (suc d) x n) (parsed.inside_of ws (parsed.loop_of ws (branch_in ws d)) (statement_in ws (suc d)) (parsed.unlooped_of ws (statement_in ws d) (inside_in ws d) (branch_in ws d)) (behind_in ws d) x n)
+  unfolding branch_in statement_in
+  inside_in_depth d x n = both (itself _) (itself _)
+
+  pub inside_line : (d : ℕ) (x : ReadAnnotation × ℕ) (n : AnnotationState)
+      → Same (behind_in ws (suc d) x n)
+      (production.inside ws (production.loop ws (branch_in ws d)) (statement_in ws (suc d)) (production.unlooped ws (statement_in ws d) (inside_in ws d) (branch_in ws d)) (behind_in ws d) x n)
+  inside_line d x n =
+      let s =
+      inside_choice (parsed.loop_of ws (branch_in ws d)) (production.loop ws (branch_in ws d)) (statement_in ws (suc d)) (parsed.unlooped_of ws (statement_in ws d) (inside_in ws d) (branch_in ws d))
+      (production.unlooped ws (statement_in ws d) (inside_in ws d) (branch_in ws d)) (behind_in ws d) (λ annots m. loop_line (branch_in ws d) annots m (branch_empty d))
+      (λ m. unlooped_line (statement_in ws d) (inside_in ws d) (branch_in ws d) m (inside_empty d)) x n
+      in
+      both (forth (inside_in_depth d x n) so forth s) (back s so back (inside_in_depth d x n))

@@ -6,8 +6,7 @@ use Rattle.grammar.specs.Exact.{Same}
 use Rattle.grammar.proofs.Forms.{to_left}
 use Rattle.grammar_laws.proofs.Inclusions.{Within, both, forth, back, itself, ◌so◌, either, first, second, on, in_turn, after_either, either_before, apart_after, handed, handed_back}
 use Rattle.grammar_laws.proofs.Tokens.{just, by_token, just_then, just_as, one_by_one, placed_some, place_is, IsEntry, table_holds, in_table}
-use Rattle.grammar_laws.proofs.Ends.{ranged}
-use Rattle.grammar_laws.proofs.Spans.{Ranged}
+use Rattle.grammar_laws.proofs.Tails.{Ranged, ranged}
 use Rattle.grammar_laws.proofs.AnnotationKnots.{prefix_knot}
 use Rattle.c_syntax.specs.declared.place.Place.{Place}
 use Rattle.c_syntax.specs.declared.expression.BinOp.TheVariants.{Add}
@@ -24,7 +23,7 @@ use Rattle.c_model.specs.Vocabulary.{Vocabulary, word_at}
 use Rattle.c_model.specs.Terminals.{placed, entry, mark_entry}
 use Rattle.c_model.specs.Punctuators.{plus, left_paren, right_paren, dots}
 use Rattle.c_model.specs.ExpressionGrammar.{word_kind, token_kind, kind, first_type, mark_kind, mark, closed}
-use Rattle.c_model.specs.AnnotationGrammar.{formula_kind, integer_kind, FormRange, Spanned, range_at, joined_forms, joined_once, joined_more, joined, factor, product, prefix, prefix_of, bare_prefix, behind_parenthesis, parenthesised, closed_postfix}
+use Rattle.c_model.specs.AnnotationGrammar.{formula_kind, integer_kind, FormEnd, ByRange, Spanned, joined_forms, joined_once, joined_more, joined, product, prefix, prefix_of, bare_prefix, behind_parenthesis, parenthesised, closed_postfix}
 use Rattle.c_model.specs.AnnotationGrammar.{cast_to_type, cast_to_integer, added_rest, behind_first, added_parenthesis, added, sum_once, product_operators, sum_operators, difference_operators, zone, forms, form}
 use Rattle.c_model.specs.AnnotationGrammar as parsed
 
@@ -44,13 +43,14 @@ no_word (word.Logic logic.Result) e = cc
 no_word (word.Logic logic.Old) e = cc
 no_word (word.Logic logic.At) e = cc
 no_word (word.Logic logic.Kept) e = cc
+no_word (word.Logic (logic.Quantifier q)) e = cc
 no_word _ e = cc
 
 -- parts in a row, before another
 flat : {A B C : Type 0} (U : Syntax PlainToken A) (P : A → Syntax PlainToken B) (H : B → Syntax PlainToken C) (G : A → Syntax PlainToken C) → ((u : A) → Same (P u then H) (G u)) → Same ((U then P) then H) (U then G)
 flat U P H G s = both (back (to_left U P H) so on U (λ u. forth (s u))) (on U (λ u. back (s u)) so forth (to_left U P H))
 
-module _ (ws : Vocabulary) where
+module _ (ws : Vocabulary) (L : Ranged Form) where
   abbrev F : Syntax PlainToken Form
   F = form ws
 
@@ -58,13 +58,13 @@ module _ (ws : Vocabulary) where
   Z = zone ws (forms ws)
 
   abbrev P : Ranged Form
-  P = product ws F Z
+  P = product ws F Z L
 
   -- ---- a range, part by part
 
-  module _ {B : Type 0} (H : FormRange → Syntax PlainToken B) where
+  module _ {B : Type 0} (H : FormEnd → Syntax PlainToken B) where
     abbrev high_part : Place → Form → Form → Syntax PlainToken B
-    high_part at lo hi = mark ws right_paren then λ _. H (range_at at lo hi)
+    high_part at lo hi = mark ws right_paren then λ _. H (ByRange at lo hi)
 
     abbrev dots_part : Place → Form → Syntax PlainToken B
     dots_part at lo = F then λ hi. high_part at lo hi
@@ -78,15 +78,15 @@ module _ (ws : Vocabulary) where
     abbrev pub parts : Place → Syntax PlainToken B
     parts at = mark ws left_paren then λ _. first_part at
 
-  abbrev given : FormRange → Syntax PlainToken FormRange
+  abbrev given : FormEnd → Syntax PlainToken FormEnd
   given r = gives r
 
-  abbrev pub range : Syntax PlainToken FormRange
+  abbrev pub range : Syntax PlainToken FormEnd
   range = mark ws plus then λ at. parts given at
 
-  module _ {B : Type 0} (H : FormRange → Syntax PlainToken B) (empty : (r : FormRange) → (H r).begun []) where
+  module _ {B : Type 0} (H : FormEnd → Syntax PlainToken B) (empty : (r : FormEnd) → (H r).begun []) where
     high_then : (at : Place) (lo hi : Form) → Same (high_part given at lo hi then H) (high_part H at lo hi)
-    high_then at lo hi = both (handed_back (mark ws right_paren) (λ _. range_at at lo hi) H (λ _. empty (range_at at lo hi))) (handed (mark ws right_paren) (λ _. range_at at lo hi) H)
+    high_then at lo hi = both (handed_back (mark ws right_paren) (λ _. ByRange at lo hi) H (λ _. empty (ByRange at lo hi))) (handed (mark ws right_paren) (λ _. ByRange at lo hi) H)
 
     pub parts_then : (at : Place) → Same (parts given at then H) (parts H at)
     parts_then at =
@@ -104,48 +104,44 @@ module _ (ws : Vocabulary) where
     abbrev sum_with : Spanned Form → Ranged Form
     sum_with right = gives (Binary at Add a right.0, right.1)
 
-    abbrev rest : Form → Ranged Form
-    rest x = added_rest ws F Z a at x
+    abbrev rest : Spanned Form → Ranged Form
+    rest x = added_rest ws F Z L a at x
 
-    abbrev with_range : FormRange → Ranged Form
+    abbrev with_range : FormEnd → Ranged Form
     with_range r = gives (a, Some r)
 
     abbrev Target : Ranged Form
     Target = choice no [] (P then sum_with) (parts given at then with_range)
 
-    product_in : Within (prefix ws F Z then rest) (P then sum_with)
-    unfolding added_rest joined factor
-    product_in =
-        handed (prefix ws F Z) (λ x. (x, None)) (λ y. joined_more ws product_operators (factor ws F Z) y then sum_with)
-        so forth (to_left (factor ws F Z) (joined_more ws product_operators (factor ws F Z)) sum_with)
+    product_in : Within (prefix ws F Z L then rest) (P then sum_with)
+    unfolding added_rest joined
+    product_in = forth (to_left (prefix ws F Z L) (joined_more ws product_operators (prefix ws F Z L)) sum_with)
 
-    product_out : Within (P then sum_with) (prefix ws F Z then rest)
-    unfolding added_rest joined factor joined_more
-    product_out =
-        back (to_left (factor ws F Z) (joined_more ws product_operators (factor ws F Z)) sum_with)
-        so handed_back (prefix ws F Z) (λ x. (x, None)) (λ y. joined_more ws product_operators (factor ws F Z) y then sum_with) (λ x. inl (0, inr refl))
+    product_out : Within (P then sum_with) (prefix ws F Z L then rest)
+    unfolding added_rest joined
+    product_out = back (to_left (prefix ws F Z L) (joined_more ws product_operators (prefix ws F Z L)) sum_with)
 
-    abbrev Behind : Place → Syntax PlainToken Form
-    Behind p = behind_parenthesis ws F (prefix ws F Z) p
+    abbrev Behind : Place → Ranged Form
+    Behind p = behind_parenthesis ws F (prefix ws F Z L) p
 
-    prefix_in : Within (prefix_of ws F Z (prefix ws F Z) then rest) Target
-    prefix_in = in_turn (back (prefix_knot ws F Z)) (λ x. itself (rest x)) so product_in so first no [] (parts given at then with_range) (itself (P then sum_with))
+    prefix_in : Within (prefix_of ws F Z L (prefix ws F Z L) then rest) Target
+    prefix_in = in_turn (back (prefix_knot ws F Z L)) (λ x. itself (rest x)) so product_in so first no [] (parts given at then with_range) (itself (P then sum_with))
 
     behind_in : Within (mark ws left_paren then λ p. Behind p then rest) Target
     unfolding prefix_of
     behind_in =
         forth (to_left (mark ws left_paren) Behind rest)
-        so in_turn (first (formula_kind ws) (mark_kind left_paren ∷ []) (bare_prefix ws F Z (prefix ws F Z)) (itself (mark ws left_paren then Behind))) (λ x. itself (rest x)) so prefix_in
+        so in_turn (first (formula_kind ws) (mark_kind left_paren ∷ []) (bare_prefix ws F Z L (prefix ws F Z L)) (itself (mark ws left_paren then Behind))) (λ x. itself (rest x)) so prefix_in
 
-    bare_in : Within (bare_prefix ws F Z (prefix ws F Z) then rest) Target
+    bare_in : Within (bare_prefix ws F Z L (prefix ws F Z L) then rest) Target
     unfolding prefix_of
-    bare_in = in_turn (second (formula_kind ws) (mark_kind left_paren ∷ []) (mark ws left_paren then Behind) (itself (bare_prefix ws F Z (prefix ws F Z)))) (λ x. itself (rest x)) so prefix_in
+    bare_in = in_turn (second (formula_kind ws) (mark_kind left_paren ∷ []) (mark ws left_paren then Behind) (itself (bare_prefix ws F Z L (prefix ws F Z L)))) (λ x. itself (rest x)) so prefix_in
 
-    abbrev Typed : Place → Syntax PlainToken Form
-    Typed p = cast_to_type ws (prefix ws F Z) p
+    abbrev Typed : Place → Ranged Form
+    Typed p = cast_to_type ws (prefix ws F Z L) p
 
-    abbrev Integral : Place → Syntax PlainToken Form
-    Integral p = cast_to_integer ws (prefix ws F Z) p
+    abbrev Integral : Place → Ranged Form
+    Integral p = cast_to_integer ws (prefix ws F Z L) p
 
     typed_in : Within (mark ws left_paren then λ p. Typed p then rest) Target
     unfolding behind_parenthesis
@@ -159,42 +155,56 @@ module _ (ws : Vocabulary) where
     abbrev Closed : Form → Syntax PlainToken Form
     Closed x = closed_postfix ws F x
 
-    closed_in : Within (mark ws left_paren then λ p. F then λ x. Closed x then rest) Target
+    abbrev open_end : Form → Ranged Form
+    open_end y = gives (y, None)
+
+    -- the rest behind a form in parentheses
+    abbrev closing : Form → Ranged Form
+    closing x = Closed x then λ y. rest (y, None)
+
+    abbrev Open : Form → Ranged Form
+    Open x = Closed x then open_end
+
+    rest_empty : (y : Spanned Form) → (rest y).begun []
+    unfolding added_rest joined_more
+    rest_empty y = inl (0, inr refl)
+
+    closed_in : Within (mark ws left_paren then λ p. F then closing) Target
     unfolding behind_parenthesis parenthesised
     closed_in =
-        on (mark ws left_paren) (λ p. forth (to_left F Closed rest)
-        so in_turn (second (formula_kind ws) first_type (Typed p) (second (formula_kind ws) (integer_kind ∷ []) (Integral p) (itself (F then Closed)))) (λ x. itself (rest x))) so behind_in
+        on (mark ws left_paren) (λ p. on F (λ x. handed (Closed x) (λ y. (y, None)) rest) so forth (to_left F Open rest)
+        so in_turn (second (formula_kind ws) first_type (Typed p) (second (formula_kind ws) (integer_kind ∷ []) (Integral p) (itself (F then Open)))) (λ x. itself (rest x))) so behind_in
 
     ranged_in : Within (parts with_range at) Target
     ranged_in = back (parts_then with_range (λ r. refl) at) so second no [] (P then sum_with) (itself _)
 
-    added_forth : Within (added ws F Z a at) Target
+    added_forth : Within (added ws F Z L a at) Target
     unfolding added added_parenthesis behind_first parsed.ranged closed
     added_forth =
         either (formula_kind ws) (mark_kind left_paren ∷ [])
         (after_either (formula_kind ws) first_type (mark ws left_paren) _ _ typed_in
         (after_either (formula_kind ws) (integer_kind ∷ []) (mark ws left_paren) _ _ integral_in
-        (on (mark ws left_paren) (λ p. apart_after (formula_kind ws) (mark_kind dots ∷ []) F (low_part with_range at) (λ x. Closed x then rest))
-        so after_either (formula_kind ws) (mark_kind dots ∷ []) (mark ws left_paren) (λ p. first_part with_range at) (λ p. F then λ x. Closed x then rest) ranged_in closed_in))) bare_in
+        (on (mark ws left_paren) (λ p. apart_after (formula_kind ws) (mark_kind dots ∷ []) F (low_part with_range at) closing)
+        so after_either (formula_kind ws) (mark_kind dots ∷ []) (mark ws left_paren) (λ p. first_part with_range at) (λ p. F then closing) ranged_in closed_in))) bare_in
 
-    behind_out : (p : Place) → Within (Behind p then rest) (added_parenthesis ws F Z a at p)
+    behind_out : (p : Place) → Within (Behind p then rest) (added_parenthesis ws F Z L a at p)
     unfolding behind_parenthesis parenthesised added_parenthesis behind_first
     behind_out p =
         either_before (formula_kind ws) first_type rest (first (formula_kind ws) first_type _ (itself (Typed p then rest)))
         (either_before (formula_kind ws) (integer_kind ∷ []) rest (second (formula_kind ws) first_type (Typed p then rest) (first (formula_kind ws) (integer_kind ∷ []) _ (itself (Integral p then rest))))
-        (back (to_left F Closed rest)
-        so second (formula_kind ws) first_type (Typed p then rest) (second (formula_kind ws) (integer_kind ∷ []) (Integral p then rest) (on F (λ x. second (formula_kind ws) (mark_kind dots ∷ []) _ (itself (Closed x then rest)))))))
+        (back (to_left F Open rest) so on F (λ x. handed_back (Closed x) (λ y. (y, None)) rest (λ y. rest_empty (y, None)))
+        so second (formula_kind ws) first_type (Typed p then rest) (second (formula_kind ws) (integer_kind ∷ []) (Integral p then rest) (on F (λ x. second (formula_kind ws) (mark_kind dots ∷ []) _ (itself (closing x)))))))
 
-    parts_out : (p : Place) → Within (first_part with_range at) (added_parenthesis ws F Z a at p)
+    parts_out : (p : Place) → Within (first_part with_range at) (added_parenthesis ws F Z L a at p)
     unfolding added_parenthesis behind_first parsed.ranged closed
     parts_out p =
-        second (formula_kind ws) first_type (Typed p then rest) (second (formula_kind ws) (integer_kind ∷ []) (Integral p then rest) (on F (λ x. first (formula_kind ws) (mark_kind dots ∷ []) (Closed x then rest) (itself (low_part with_range at x)))))
+        second (formula_kind ws) first_type (Typed p then rest) (second (formula_kind ws) (integer_kind ∷ []) (Integral p then rest) (on F (λ x. first (formula_kind ws) (mark_kind dots ∷ []) (closing x) (itself (low_part with_range at x)))))
 
-    added_back : Within Target (added ws F Z a at)
+    added_back : Within Target (added ws F Z L a at)
     unfolding added prefix_of
     added_back =
         either no []
-        (product_out so in_turn (forth (prefix_knot ws F Z)) (λ x. itself (rest x))
+        (product_out so in_turn (forth (prefix_knot ws F Z L)) (λ x. itself (rest x))
         so either_before (formula_kind ws) (mark_kind left_paren ∷ []) rest
         (back (to_left (mark ws left_paren) Behind rest) so on (mark ws left_paren) behind_out so first (formula_kind ws) (mark_kind left_paren ∷ []) _ (itself _)) (second (formula_kind ws) (mark_kind left_paren ∷ []) _ (itself _)))
         (forth (parts_then with_range (λ r. refl) at) so on (mark ws left_paren) parts_out so first (formula_kind ws) (mark_kind left_paren ∷ []) _ (itself _))
@@ -258,7 +268,7 @@ module _ (ws : Vocabulary) where
     unfolding joined_once
     operators_back = either no [] plus_back minus_back
 
-    turn_forth : Within (sum_once ws F Z a) (choice no [] (joined_once ws sum_operators P a) (ranged range a))
+    turn_forth : Within (sum_once ws F Z L a) (choice no [] (joined_once ws sum_operators P a) (ranged range a))
     unfolding sum_once
     turn_forth =
         either (formula_kind ws) (mark_kind plus ∷ [])
@@ -268,7 +278,7 @@ module _ (ws : Vocabulary) where
         (forth (to_left (mark ws plus) (λ at. parts given at) (λ r. gives (a, Some r))) so second no [] (joined_once ws sum_operators P a) (itself _)))
         (second no [] (mark ws plus then added_at) (itself (joined_once ws difference_operators P a)) so operators_back so first no [] (ranged range a) (itself _))
 
-    turn_back : Within (choice no [] (joined_once ws sum_operators P a) (ranged range a)) (sum_once ws F Z a)
+    turn_back : Within (choice no [] (joined_once ws sum_operators P a) (ranged range a)) (sum_once ws F Z L a)
     unfolding sum_once
     turn_back =
         either no []
@@ -279,5 +289,5 @@ module _ (ws : Vocabulary) where
         (back (to_left (mark ws plus) (λ at. parts given at) (λ r. gives (a, Some r)))
         so on (mark ws plus) (λ at. second no [] (added_at at) (itself (parts given at then with_range a at)) so added_back a at) so first (formula_kind ws) (mark_kind plus ∷ []) _ (itself _))
 
-    pub turn_is : Same (sum_once ws F Z a) (choice no [] (joined_once ws sum_operators P a) (ranged range a))
+    pub turn_is : Same (sum_once ws F Z L a) (choice no [] (joined_once ws sum_operators P a) (ranged range a))
     turn_is = both turn_forth turn_back

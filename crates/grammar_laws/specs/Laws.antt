@@ -8,7 +8,8 @@ use Rattle.c_model.specs.Terminals.{nesting_limit}
 use Rattle.c_model.specs.Vocabulary.{Vocabulary}
 use Rattle.c_model.specs.DeclarationGrammar.{Definitions, TagHead, braces_in, list_in}
 use Rattle.c_model.specs.DeclarationGrammar as parsed
-use Rattle.c_model.specs.ProgramGrammar.{branch_in, inside_in, item, statement_in}
+use Rattle.c_model.specs.ClauseGrammar.{ReadAnnotation}
+use Rattle.c_model.specs.ProgramGrammar.{behind_in, branch_in, inside_in, item, statement_in}
 use Rattle.grammar_laws.specs.DeclarationProductions as production
 use Rattle.grammar_laws.specs.StatementProductions as written
 
@@ -48,13 +49,21 @@ ItemsAreProductions =
 
 abbrev pub BranchesAreProductions : Type 0
 BranchesAreProductions =
-    (ws : Vocabulary) (n : ℕ) (s : AnnotationState) → Same (branch_in ws (suc n) s) (written.branch ws (statement_in ws (suc n)) (branch_in ws n) s)
+    (ws : Vocabulary) (n : ℕ) (s : AnnotationState) → Same (branch_in ws (suc n) s) (written.branch ws (statement_in ws (suc n)) (behind_in ws n) s)
 
 abbrev pub DeeperStatementsAreLate : Type 0
 DeeperStatementsAreLate =
     (ws : Vocabulary) (s : AnnotationState)
-    → Same (statement_in ws zero s) (deep nesting_limit (λ _. 0) [] (written.stmt ws (λ _. none) (λ _. none) (λ _. none) s))
+    → Same (statement_in ws zero s) (deep nesting_limit (λ _. 0) [] (written.stmt ws (λ _. none) (λ _ _. none) (λ _. none) s))
 
--- what stands inside a statement behind an annotation is what stands inside one that is one deeper
-abbrev pub InsideIsBranch : Type 0
-InsideIsBranch = (ws : Vocabulary) (n : ℕ) (s : AnnotationState) → Same (inside_in ws (suc n) s) (branch_in ws n s)
+-- what stands behind an annotation, where statements stand so deep; T and U stand for those that begin with no annotation, U being no loop
+abbrev pub InsideIsProduction : Type 0
+InsideIsProduction =
+    (ws : Vocabulary) (n : ℕ) (x : ReadAnnotation × ℕ) (s : AnnotationState)
+    → Same (behind_in ws (suc n) x s)
+    (written.inside ws (written.loop ws (branch_in ws n)) (statement_in ws (suc n)) (written.unlooped ws (statement_in ws n) (inside_in ws n) (branch_in ws n))
+    (behind_in ws n) x s)
+
+-- it is what stands inside a statement that is one deeper
+abbrev pub InsideIsBehind : Type 0
+InsideIsBehind = (ws : Vocabulary) (n : ℕ) (x : ReadAnnotation × ℕ) (s : AnnotationState) → Same (inside_in ws (suc n) x s) (behind_in ws n x s)

@@ -1,10 +1,11 @@
 -- The productions of statements as the head of c_model/specs/ProgramGrammar has them (C99 6.8). What a production is made of are the values
--- that are parsed; T stands for a statement in a block, B for one behind an annotation there, and S for one inside another.
-use Rattle.std.specs.Prelude.{List, [], ◌∷◌, ◌++◌, Option, Some, None, not, cond}
+-- that are parsed; T stands for a statement in a block, B for what stands behind an annotation there, and S for a statement inside another.
+use Rattle.std.specs.Prelude.{List, [], ◌∷◌, ◌++◌, Option, Some, None, Bool, true, false, not, cond}
 use Rattle.grammar.specs.Syntax.{Syntax, none, gives, ◌then◌}
 use Rattle.grammar_laws.specs.Plain.{◌or◌, repeated, only}
 use Rattle.c_syntax.specs.declared.place.Place.{Place}
 use Rattle.c_syntax.specs.Expressions.{Expression}
+use Rattle.c_syntax.specs.Logic.{Annotation}
 use Rattle.c_syntax.specs.Statements as statement
 use Rattle.c_syntax.specs.Statements.{Statement, NoElse, ForFirst, NoFirst, First, BlockItem}
 use Rattle.c_syntax.specs.Tokens.{PlainToken}
@@ -15,10 +16,16 @@ use Rattle.c_model.specs.Vocabulary.{Vocabulary}
 use Rattle.c_model.specs.Punctuators.{semicolon, colon, left_paren, right_paren, left_brace, right_brace}
 use Rattle.c_model.specs.ExpressionGrammar.{mark, reserved, name, full_expression, full_placed_expression, full_expression_at}
 use Rattle.c_model.specs.DeclarationGrammar.{declaration}
-use Rattle.c_model.specs.ClauseGrammar.{annotations}
-use Rattle.c_model.specs.Library.{is_there}
-use Rattle.c_model.specs.ProgramGrammar.{Numbered, ReadCase, is_open, block_items, cases_of, after_placed, after_misplaced}
+use Rattle.c_model.specs.ClauseGrammar.{ReadAnnotation, Assertions, Contracted, Looped, annotations}
+use Rattle.c_model.specs.ProgramGrammar.{Numbered, Annotated, Looping, ReadCase, is_open, block_items, cases_of, after_placed, after_misplaced, after_loop}
 use Rattle.c_model.specs.ProgramGrammar as parsed
+
+-- whether an annotation is one with asserts, and these
+abbrev pub are_asserts : ReadAnnotation → Bool
+are_asserts x = elim x [ Assertions asserts ↦ true | Contracted c ↦ false | Looped l ↦ false ]
+
+abbrev pub asserts_of : ReadAnnotation → List Annotation
+asserts_of x = elim x [ Assertions asserts ↦ asserts | Contracted c ↦ [] | Looped l ↦ [] ]
 
 module _ (ws : Vocabulary) where
   -- [ G ]
@@ -31,23 +38,22 @@ module _ (ws : Vocabulary) where
 
   -- asserts
   abbrev pub asserts : AnnotationState → Syntax PlainToken (BlockItem × AnnotationState)
-  asserts n = annotations ws n.number then λ x. only (not (is_there x.0.1)) (gives (statement.Asserts x.0.0, after_placed n x.1))
+  asserts n = annotations ws n.number then λ x. only (are_asserts x.0) (gives (statement.Asserts (asserts_of x.0), after_placed n x.1))
 
-  -- contract branch, where the contract is misplaced
-  abbrev pub behind_contract : Numbered → AnnotationState → Syntax PlainToken (BlockItem × AnnotationState)
-  behind_contract B n =
-      annotations ws n.number then λ x. only (is_there x.0.1) (B (after_misplaced n x) then λ y. gives (statement.Run y.0, y.1))
+  -- annotation inside, where the annotation is none with asserts
+  abbrev pub annotated : Annotated → AnnotationState → Syntax PlainToken (BlockItem × AnnotationState)
+  annotated B n = annotations ws n.number then λ x. only (not (are_asserts x.0)) (B x n then λ y. gives (statement.Run y.0, y.1))
 
-  -- item = asserts | contract branch | decl | stmt
-  abbrev pub item : Numbered → Numbered → AnnotationState → Syntax PlainToken (BlockItem × AnnotationState)
-  item T B n = asserts n or behind_contract B n or (declaration ws then λ i. gives (i, n)) or (T n then λ x. gives (statement.Run x.0, x.1))
+  -- item = asserts | annotation inside | decl | stmt
+  abbrev pub item : Numbered → Annotated → AnnotationState → Syntax PlainToken (BlockItem × AnnotationState)
+  item T B n = asserts n or annotated B n or (declaration ws then λ i. gives (i, n)) or (T n then λ x. gives (statement.Run x.0, x.1))
 
   -- { item }
-  abbrev pub items : Numbered → Numbered → AnnotationState → Syntax PlainToken (List BlockItem × AnnotationState)
+  abbrev pub items : Numbered → Annotated → AnnotationState → Syntax PlainToken (List BlockItem × AnnotationState)
   items T B n = repeated (λ x. parsed.item ws T B x.1 then λ i. gives (x.0 ++ i.0 ∷ [], i.1)) ([], n)
 
   -- "{" { item } "}"
-  abbrev pub block : Numbered → Numbered → Numbered
+  abbrev pub block : Numbered → Annotated → Numbered
   block T B n = mark ws left_brace then λ at. items T B n then λ x. mark ws right_brace then λ _. gives (statement.Block at (block_items x.0), x.1)
 
   -- ";"
@@ -62,8 +68,8 @@ module _ (ws : Vocabulary) where
       or cond (is_open x.0) none (reserved ws keyword.Else then λ _. S x.1 then λ y. gives (statement.If at e x.0 (statement.Else y.0), y.1))
 
   -- "while" "(" comma ")" branch
-  abbrev pub while_loop : Numbered → Numbered
-  while_loop S n = reserved ws keyword.While then λ at. condition then λ e. S n then λ x. gives (statement.While at [] e x.0, x.1)
+  abbrev pub while_loop : Numbered → Looping
+  while_loop S annots n = reserved ws keyword.While then λ at. condition then λ e. S n then λ x. gives (statement.While at annots e x.0, x.1)
 
   -- "do" branch "while" "(" comma ")" ";"
   abbrev pub do_loop : Numbered → Numbered
@@ -79,11 +85,15 @@ module _ (ws : Vocabulary) where
       or (mark ws semicolon then λ _. gives (NoFirst, n))
 
   -- "for" "(" ( decl | [ comma ] ";" ) [ comma ] ";" [ comma ] ")" branch
-  abbrev pub for_loop : Numbered → Numbered
-  for_loop S n =
+  abbrev pub for_loop : Numbered → Looping
+  for_loop S annots n =
       reserved ws keyword.For then λ at. mark ws left_paren then λ _. for_first n then λ first. maybe (full_expression ws) then λ e.
       mark ws semicolon then λ _. maybe (full_expression ws) then λ behind. mark ws right_paren then λ _.
-      S first.1 then λ x. gives (statement.For at [] first.0 e behind x.0, x.1)
+      S first.1 then λ x. gives (statement.For at annots first.0 e behind x.0, x.1)
+
+  -- loop
+  abbrev pub loop : Numbered → Looping
+  loop S annots n = while_loop S annots n or for_loop S annots n
 
   -- "return" [ comma ] ";"
   abbrev pub return_statement : Numbered
@@ -102,24 +112,24 @@ module _ (ws : Vocabulary) where
       (reserved ws keyword.Case then λ at. full_expression_at ws Conditional then λ e. mark ws colon then λ _. gives (at, Some e))
       or (reserved ws keyword.Default then λ at. mark ws colon then λ _. gives (at, None))
 
-  -- asserts | contract branch | stmt
-  abbrev pub case_item : Numbered → Numbered → AnnotationState → Syntax PlainToken (BlockItem × AnnotationState)
-  case_item T B n = asserts n or behind_contract B n or (T n then λ x. gives (statement.Run x.0, x.1))
+  -- asserts | annotation inside | stmt
+  abbrev pub case_item : Numbered → Annotated → AnnotationState → Syntax PlainToken (BlockItem × AnnotationState)
+  case_item T B n = asserts n or annotated B n or (T n then λ x. gives (statement.Run x.0, x.1))
 
-  -- { asserts | contract branch | stmt }
-  abbrev pub case_items : Numbered → Numbered → AnnotationState → Syntax PlainToken (List BlockItem × AnnotationState)
+  -- { asserts | annotation inside | stmt }
+  abbrev pub case_items : Numbered → Annotated → AnnotationState → Syntax PlainToken (List BlockItem × AnnotationState)
   case_items T B n = repeated (λ x. case_item T B x.1 then λ i. gives (x.0 ++ i.0 ∷ [], i.1)) ([], n)
 
-  -- case = ( "case" cond | "default" ) ":" { asserts | contract branch | stmt }, after others
-  abbrev pub next_case : Numbered → Numbered → List ReadCase × AnnotationState → Syntax PlainToken (List ReadCase × AnnotationState)
+  -- case = ( "case" cond | "default" ) ":" { asserts | annotation inside | stmt }, after others
+  abbrev pub next_case : Numbered → Annotated → List ReadCase × AnnotationState → Syntax PlainToken (List ReadCase × AnnotationState)
   next_case T B x = case_label then λ l. case_items T B x.1 then λ y. gives (x.0 ++ record { place = l.0; value = l.1; items = y.0 } ∷ [], y.1)
 
   -- { case }
-  abbrev pub cases : Numbered → Numbered → AnnotationState → Syntax PlainToken (List ReadCase × AnnotationState)
+  abbrev pub cases : Numbered → Annotated → AnnotationState → Syntax PlainToken (List ReadCase × AnnotationState)
   cases T B n = repeated (next_case T B) ([], n)
 
   -- "switch" "(" comma ")" "{" { case } "}"
-  abbrev pub switch_statement : Numbered → Numbered → Numbered
+  abbrev pub switch_statement : Numbered → Annotated → Numbered
   switch_statement T B n =
       reserved ws keyword.Switch then λ at. condition then λ e. mark ws left_brace then λ _. cases T B n then λ x.
       mark ws right_brace then λ _. gives (statement.Switch at e (cases_of x.0), x.1)
@@ -132,12 +142,24 @@ module _ (ws : Vocabulary) where
   abbrev pub labelled : Numbered → Numbered
   labelled S n = name ws then λ x. mark ws colon then λ _. S n then λ y. gives (statement.Labelled x.1 x.0 y.0, y.1)
 
-  -- stmt
-  abbrev pub stmt : Numbered → Numbered → Numbered → Numbered
-  stmt T B S n =
-      block T B n or empty n or effect_statement n or labelled S n or selection S n or while_loop S n or do_loop S n or for_loop S n
-      or switch_statement T B n or jump n or return_statement n
+  -- a statement that is no loop
+  abbrev pub unlooped : Numbered → Annotated → Numbered → Numbered
+  unlooped T B S n =
+      block T B n or empty n or effect_statement n or labelled S n or selection S n or do_loop S n or switch_statement T B n or jump n
+      or return_statement n
 
-  -- branch = annotation branch | stmt
-  abbrev pub branch : Numbered → Numbered → Numbered
-  branch T S n = (parsed.misplaced ws n then S) or T n
+  -- stmt
+  abbrev pub stmt : Numbered → Annotated → Numbered → Numbered
+  stmt T B S n = loop S [] n or unlooped T B S n
+
+  -- branch = annotation inside | stmt
+  abbrev pub branch : Numbered → Annotated → Numbered
+  branch T A n = (annotations ws n.number then λ x. A x n) or T n
+
+  -- inside = loop, behind its clauses | branch, where the annotation is misplaced: behind clauses of a loop the branch begins with no loop
+  abbrev pub inside : Looping → Numbered → Numbered → Annotated → Annotated
+  inside W T U A x n = elim x.0 [
+    | Assertions asserts ↦ branch T A (after_misplaced n x)
+    | Contracted c ↦ branch T A (after_misplaced n x)
+    | Looped l ↦ W l.clauses (after_loop n l x.1) or branch U A (after_misplaced n x)
+  ]

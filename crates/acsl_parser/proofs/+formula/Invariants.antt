@@ -1,6 +1,7 @@
 use Rattle.std.proofs.Common.{◌≡◌, ℕ, ◌+◌, ◌*◌, ◌≤◌, length, map}
 use Rattle.c_syntax.specs.Formulas.{plain_form, plain_form_zone}
-use Rattle.c_model.specs.AnnotationGrammar.{postfixes, joined_more, sum_more, form}
+use Rattle.c_model.specs.declared.formulas.FormulaMode.TheVariants.{Zone}
+use Rattle.c_model.specs.AnnotationGrammar.{postfixes, joined_more, sum_more, forms, form}
 use Rattle.acsl_parser.specs.declared.tables.Level.{Level}
 use Rattle.acsl_parser.specs.declared.tables.Level.TheVariants as level
 use Rattle.acsl_parser.specs.Reading.{any_zone, operators, operand, more_zones, plain_spanned}
@@ -59,6 +60,9 @@ decreases-prefix::behind_parenthesis l = 100 * length l.tokens.now + 41
 abbrev pub decreases-prefix::prefixed : goal.decreases-prefix::prefixed
 decreases-prefix::prefixed l = 100 * length l.tokens.now + 1
 
+abbrev pub decreases-prefix::quantified : goal.decreases-prefix::quantified
+decreases-prefix::quantified l = 100 * length l.tokens.now + 1
+
 abbrev pub decreases-primary::old_form : goal.decreases-primary::old_form
 decreases-primary::old_form l = 100 * length l.tokens.now + 1
 
@@ -103,9 +107,6 @@ decreases-prefix::bare_prefix l = 100 * length l.tokens.now + 5
 
 abbrev pub decreases-prefix::prefix : goal.decreases-prefix::prefix
 decreases-prefix::prefix l = 100 * length l.tokens.now + 10
-
-abbrev pub decreases-formula::factor : goal.decreases-formula::factor
-decreases-formula::factor l = 100 * length l.tokens.now + 11
 
 abbrev pub decreases-formula::operand : goal.decreases-formula::operand
 decreases-formula::operand l = 100 * length l.tokens.now + height l.level
@@ -155,8 +156,8 @@ decreases-sum::sum_more l = 100 * length l.tokens.now + 3
 
 abbrev pub invariant-sum::sum_more-turn : goal.invariant-sum::sum_more-turn
 invariant-sum::sum_more-turn l = record {
-  same : (sum_more l.words (form l.words) (any_zone l.words) (plain_spanned (l.left, l.range))).parse (plain_list l.rest) ≡
-      (sum_more l.words (form l.words) (any_zone l.words) (plain_spanned l.fn.left)).parse (plain_list l.fn.tokens);
+  same : (sum_more l.words (form l.words) (any_zone l.words) (forms l.words Zone) (plain_spanned (l.left, l.range))).parse (plain_list l.rest) ≡
+      (sum_more l.words (form l.words) (any_zone l.words) (forms l.words Zone) (plain_spanned l.fn.left)).parse (plain_list l.fn.tokens);
   shorter : length l.rest ≤ length l.fn.tokens;
 }
 

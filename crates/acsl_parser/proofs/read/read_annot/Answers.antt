@@ -4,11 +4,12 @@ use Rattle.c_syntax.specs.Programs.{plain_contract}
 use Rattle.c_syntax.specs.Tokens.{plain_tokens, plain_token}
 use Rattle.c_model.specs.Vocabulary.{Vocabulary, word_of}
 use Rattle.c_expr_parser.specs.Levels.{with_types}
+use Rattle.acsl_parser.specs.Reading.{plain_read}
 use Rattle.acsl_parser.proofs.AnnotationAnswers.{left_within, annotation_read, annotation_refused}
 use Rattle.acsl_parser.proofs.read.read_annot.Goals as goal
 
-pub place_behind-requires : goal.place_behind-requires
-place_behind-requires c =
+pub place_behind-behind-requires : goal.place_behind-behind-requires
+place_behind-behind-requires c =
     let le = left_within c.as_slice-2.result.now c.args.first c.split_at.result.1.now c.in-Ok.left.now _ c.in-Ok.ensures in
     omega (arith, le, c.split_at.ensures.back_len)
 
@@ -19,7 +20,9 @@ returns-in-Ok c =
     annotation_read (plain_tokens c.args.tokens.now) c.args.types.now c.args.at c.args.first c.as_slice-2.result.now list c.split_at.result.1.now
     (c.as_slice-2.ensures.value ∙ c.with_types-words.ensures ∙ ap (λ (ws : Vocabulary). with_types ws c.args.types.now) (c.in_ok-words.ensures ∙ ap (map word_of) c.as_slice.ensures.value))
     (ap (map plain_token) c.as_slice-list.ensures.value) c.split_at.ensures.back start
-    (map plain_annot c.in-Ok.read.0.items) (option_map plain_contract c.in-Ok.read.1) _ c.in-Ok.left.now c.place_behind.result c.in-Ok.ensures c.place_behind.ensures
+    (plain_read c.in-Ok.read) (map plain_annot c.parts_of-clauses.result.0.items) (option_map plain_contract c.parts_of-clauses.result.1) _ c.in-Ok.left.now c.place_behind-behind.result
+    c.in-Ok.ensures c.parts_of-clauses.ensures.clauses c.parts_of-clauses.ensures.contract
+    c.place_behind-behind.ensures
 
 pub returns : goal.returns
 returns c =

@@ -23,6 +23,9 @@ decreases-do_loop l = 10 * l.levels + 4
 abbrev pub decreases-for_loop : goal.decreases-for_loop
 decreases-for_loop l = 10 * l.levels + 4
 
+abbrev pub decreases-loop_of : goal.decreases-loop_of
+decreases-loop_of l = 10 * l.levels + 5
+
 abbrev pub decreases-run_item : goal.decreases-run_item
 decreases-run_item l = 10 * l.levels + 1
 
@@ -94,6 +97,15 @@ decreases-statement l = 10 * l.levels
 
 abbrev pub decreases-branch : goal.decreases-branch
 decreases-branch l = 10 * l.levels + 1
+
+abbrev pub decreases-unlooped : goal.decreases-unlooped
+decreases-unlooped l = 10 * l.levels + 9
+
+abbrev pub decreases-behind_loop : goal.decreases-behind_loop
+decreases-behind_loop l = 10 * l.levels + 2
+
+abbrev pub decreases-behind : goal.decreases-behind
+decreases-behind l = 10 * l.levels + 3
 
 abbrev pub decreases-inside : goal.decreases-inside
 decreases-inside l = 10 * l.levels

@@ -1,15 +1,14 @@
 use Rattle.grammar_laws.proofs.ChainProductions.{chain_line}
 use Rattle.grammar_laws.proofs.AnnotationProductions.{prefix_line}
-use Rattle.grammar_laws.proofs.BareLevels.{form_line, implication_bare}
+use Rattle.grammar_laws.proofs.AloneLevels.{form_line, implication_line}
 use Rattle.grammar_laws.proofs.ZoneLevels.{zone_line}
-use Rattle.c_model.specs.AnnotationGrammar as parsed
 use Rattle.grammar_laws.proofs.annotations.forms.Goals as goal
 
 pub returns-clause-form : goal.returns-clause-form
 returns-clause-form c = form_line
 
 pub returns-clause-implication : goal.returns-clause-implication
-returns-clause-implication c = λ ws. implication_bare ws (parsed.form ws) (parsed.zone ws (parsed.forms ws))
+returns-clause-implication c = implication_line
 
 pub returns-clause-chain : goal.returns-clause-chain
 returns-clause-chain c = chain_line

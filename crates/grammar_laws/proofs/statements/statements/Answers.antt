@@ -1,5 +1,5 @@
 use Rattle.c_model.specs.ProgramGrammar.{statement_in, inside_in}
-use Rattle.grammar_laws.proofs.StatementProductions.{statement_line, item_line, branch_line, inside_line, inside_empty, deepest_line}
+use Rattle.grammar_laws.proofs.StatementProductions.{statement_line, item_line, branch_line, inside_line, behind_line, inside_empty, deepest_line}
 use Rattle.grammar_laws.proofs.statements.statements.Goals as goal
 
 pub returns-clause-statement : goal.returns-clause-statement
@@ -10,6 +10,9 @@ returns-clause-branch c = branch_line
 
 pub returns-clause-inside : goal.returns-clause-inside
 returns-clause-inside c = inside_line
+
+pub returns-clause-behind : goal.returns-clause-behind
+returns-clause-behind c = behind_line
 
 pub returns-clause-deepest : goal.returns-clause-deepest
 returns-clause-deepest c = deepest_line

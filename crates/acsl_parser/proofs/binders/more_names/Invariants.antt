@@ -1,7 +1,7 @@
 use Rattle.std.proofs.Common.{◌≡◌, ◌≤◌, length}
 use Rattle.acsl_parser.specs.Reading.{more_names}
 use Rattle.token_reader.specs.Reading.{plain_list}
-use Rattle.acsl_parser.proofs.contract.more_names.Given as goal
+use Rattle.acsl_parser.proofs.binders.more_names.Given as goal
 
 abbrev pub invariant-turn : goal.invariant-turn
 invariant-turn l = record {
