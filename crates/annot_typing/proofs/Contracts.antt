@@ -4,7 +4,7 @@ use Rattle.c_syntax.specs.declared.annotation.Kind.{Kind}
 use Rattle.c_syntax.specs.declared.logic.Annot.{Annot}
 use Rattle.c_syntax.specs.declared.logic.Body.{Body}
 use Rattle.c_syntax.specs.declared.program.Behavior.{Behavior}
-use Rattle.c_syntax.specs.Logic.{Annotation, plain_body, plain_annot}
+use Rattle.c_syntax.specs.Logic.{Annotation, ClauseBody, plain_body, plain_annot}
 use Rattle.c_syntax.specs.Programs.{FunctionContract, NamedBehavior, plain_behavior}
 use Rattle.c_model.specs.Checked.{Checked, Good, one_part, where_so}
 use Rattle.c_model.specs.AnnotationSights.{AnnotationSight}
@@ -19,11 +19,20 @@ use Rattle.c_scopes.proofs.Tags.{among_last}
 
 -- one more clause is typed
 pub clauses_more : (seen : Kind → AnnotationSight) (all : List Annotation) (list done done' : List Annot) (a : Annot) (body : Body) (rest : List Annot)
-    → typed_clauses seen all ≡ behind_parts (map plain_annot done) (typed_clauses seen (map plain_annot list)) → list ≡ a ∷ rest → typed_clause (seen a.kind) (plain_body a.body) ≡ Good (plain_body body)
+    → typed_clauses seen all ≡ behind_parts (map plain_annot done) (typed_clauses seen (map plain_annot list)) → list ≡ a ∷ rest → typed_clause (seen a.kind) a.kind (plain_body a.body) ≡ Good (plain_body body)
     → done' ≡ done ++ record a { body = body } ∷ [] → typed_clauses seen all ≡ behind_parts (map plain_annot done') (typed_clauses seen (map plain_annot rest))
 clauses_more seen all list done done' a body rest before is good more =
     list_more plain_annot (λ b. record (plain_annot a) { body = b }) (typed_clauses seen all) (typed_clauses seen (map plain_annot list)) done done' (record a { body = body })
-    (typed_clause (seen a.kind) (plain_body a.body)) (λ b. typed_clauses seen (map plain_annot rest)) (plain_body body) before (ap (λ l. typed_clauses seen (map plain_annot l)) is) good refl more
+    (typed_clause (seen a.kind) a.kind (plain_body a.body)) (λ b. typed_clauses seen (map plain_annot rest)) (plain_body body) before (ap (λ l. typed_clauses seen (map plain_annot l)) is) good refl more
+
+-- a clause is refused
+pub clause_refused : {S T : Type 0} (p : T → ClauseBody) (q : S → List Annotation) (seen : Kind → AnnotationSight) (all done : List Annotation) (list : List Annot) (a : Annot) (rest : List Annot) (h : TypeFault)
+    → typed_clauses seen all ≡ behind_parts done (typed_clauses seen (map plain_annot list)) → list ≡ a ∷ rest → Answers p (typed_clause (seen a.kind) a.kind (plain_body a.body)) (Err h) → Answers q (typed_clauses seen all) (Err h)
+clause_refused p q seen all done list a rest h before is refused =
+    let view = λ (b : ClauseBody). record (plain_annot a) { body = b } in
+    let behind = λ (b : ClauseBody). typed_clauses seen (map plain_annot rest) in
+    subst (λ m. Answers q m (Err h)) (sym (before ∙ ap (behind_parts done) (ap (λ l. typed_clauses seen (map plain_annot l)) is)))
+    (part_refused done (typed_clause (seen a.kind) a.kind (plain_body a.body)) view behind p q h refused)
 
 -- ---- the same names
 

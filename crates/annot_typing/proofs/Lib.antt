@@ -1,6 +1,8 @@
+pub mod Binders
 -- the sorts of forms
 pub mod Kept
 pub mod Parts
+pub mod Quantifiers
 pub mod Relations
 pub mod Zones
 -- types that stand in them

@@ -3,7 +3,7 @@ use Rattle.std.proofs.Common.{◌≡◌, pos, refl, sym, ap, subst, cond, Result
 use Rattle.std.specs.Ordering.{int_eq}
 use Rattle.c_syntax.specs.declared.place.Place.{Place}
 use Rattle.c_syntax.specs.declared.logic.Term.{Term}
-use Rattle.c_syntax.specs.Formulas.{Form, Number, Letter, Truth, Name, Unary, Binary, Cast, SizeOf, Chain, Connected, Choice, Null, Index, Dot, Arrow, Told, Asks, Separated, Result as ResultOf, Old, At}
+use Rattle.c_syntax.specs.Formulas.{Form, Number, Letter, Truth, Name, Unary, Binary, Cast, SizeOf, Chain, Connected, Choice, Null, Index, Dot, Arrow, Told, Asks, Separated, Result as ResultOf, Old, At, Quantified}
 use Rattle.c_syntax.specs.Logic.{LogicTerm, plain_term}
 use Rattle.c_model.specs.Checked.{Checked, Good, Bad, one_part, pair_of}
 use Rattle.c_model.specs.PredicateTyping as typing
@@ -51,6 +51,7 @@ module _ (c : Checked typing.Sorted) (r : Result Sorted TypeFault) (h : Answers 
     side_known (ResultOf at) = value_known
     side_known (Old at a) = value_known
     side_known (At at a l name) = value_known
+    side_known (Quantified at q to names a) = value_known
 
 module _ {B U : Type 0} (q : U → B) (k : Side → Checked B) (f : Form) (c : Checked typing.Sorted) (b : Result U TypeFault)
   where

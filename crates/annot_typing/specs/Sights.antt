@@ -9,6 +9,7 @@ use Rattle.c_scopes.specs.declared.tag.Tags.{Tags}
 use Rattle.c_scopes.specs.KnownLabels.{known_labels, marks_of, sight_of}
 use Rattle.annot_typing.specs.declared.clause_sight.ClauseSight.{ClauseSight}
 use Rattle.annot_typing.specs.declared.clause_sight.ClauseSight.TheVariants as code
+use Rattle.annot_typing.specs.declared.clause_sight.FormSight.{FormSight}
 use Rattle.annot_typing.specs.declared.clause_sight.View.{View}
 
 -- the numbers of parameters, if there are some
@@ -30,8 +31,12 @@ labels_in s (code.AtEnd formals t) = []
 labels_in s (code.UnderLabel formals) = []
 
 abbrev pub annotation_sight : Sight → ClauseSight → AnnotationSight
-annotation_sight s k = record { here = s; labels = labels_in s k; clause = plain_clause s k }
+annotation_sight s k = record { here = s; labels = labels_in s k; clause = plain_clause s k; binders = [] }
+
+-- with the binders of quantifiers
+abbrev pub form_sight : Sight → FormSight → AnnotationSight
+form_sight s f = record { here = s; labels = labels_in s f.clause; clause = plain_clause s f.clause; binders = f.binders.now }
 
 -- what is in sight of a view, where this is
 abbrev pub plain_view : Sight → View → AnnotationSight
-plain_view s v = annotation_sight (sight_of s v.mark) v.clause
+plain_view s v = form_sight (sight_of s v.mark) v.clause

@@ -2,8 +2,10 @@
 
 ghost use Rattle.std.specs.Prelude.{◌≡◌, option_map};
 ghost use Rattle.c_syntax.specs.Ctypes.{plain_type};
-ghost use Rattle.c_syntax.specs.Logic.{plain_pred, plain_term};
-ghost use Rattle.c_model.specs.PredicateTyping.{branch, choice_between, choice_of_terms, choice_target, chosen, connected, sort_of_term};
+ghost use Rattle.c_syntax.specs.Logic.{plain_pred, plain_pred_kind, plain_term};
+ghost use Rattle.c_model.specs.ExpressionTyping.{or_else};
+ghost use Rattle.c_model.specs.PredicateTyping.{branch, choice_between, choice_of_terms, choice_target, chosen, connected, quantifier_in, sort_of_term};
+ghost use Rattle.c_model.specs.PredicateTyping.{where_quiet};
 ghost use Rattle.c_scopes.specs.Answers.{Answers};
 ghost use Rattle.annot_typing.specs.Sorts.{plain_sorted};
 
@@ -78,6 +80,61 @@ fn branch(alloc: Global, place: Place, c: Pred, a: Sorted, b: Sorted) -> Result<
     predicate(alloc, place, PredKind::Choice(c, a, b))
 }
 
+/// The first of two places in their order.
+fn either(a: Option<Place>, b: Option<Place>) -> Option<Place>
+    ensures { result ≡ or_else a b }
+{
+    match a {
+        Some(place) => Some(place),
+        None => b,
+    }
+}
+
+/// The place of the first quantifier of a predicate; a term has none.
+#[cycle(quiet)]
+fn quantifier_in(p: &Pred) -> Option<Place>
+    ensures { result ≡ quantifier_in (plain_pred p.now) }
+{
+    quantifier_in_kind(p.place, &p.kind)
+}
+
+#[cycle(quiet)]
+fn quantifier_in_kind(place: Place, kind: &PredKind) -> Option<Place>
+    ensures { result ≡ quantifier_in (plain_pred_kind place kind.now) }
+{
+    match kind {
+        PredKind::Truth(_)
+        | PredKind::NonZero(_)
+        | PredKind::Chain(..)
+        | PredKind::Asks(..)
+        | PredKind::Separated(_) => None,
+        PredKind::Not(p) => quantifier_in(p),
+        PredKind::Connected(_, p, q) => either(quantifier_in(p), quantifier_in(q)),
+        PredKind::Choice(c, p, q) => either(
+            quantifier_in(c),
+            either(quantifier_in(p), quantifier_in(q)),
+        ),
+        PredKind::Quantified(..) => Some(place),
+    }
+}
+
+/// A choice of terms, whose condition has no quantifier.
+fn choice_of_values(
+    alloc: Global,
+    place: Place,
+    c: Pred,
+    t: Term,
+    u: Term,
+) -> Result<Sorted, TypeFault>
+    ensures { let a = plain_term t in let b = plain_term u in
+        Answers plain_sorted (where_quiet (plain_pred c) (choice_of_terms place (plain_pred c) a b (sort_of_term a) (sort_of_term b))) result }
+{
+    match quantifier_in(&c) {
+        Some(at) => Err(no_type(at)),
+        None => choice_of_terms(alloc, place, c, t, u),
+    }
+}
+
 /// A choice is a term where both parts are terms, which are values here.
 fn choice_between(
     alloc: Global,
@@ -89,7 +146,7 @@ fn choice_between(
     ensures { Answers plain_sorted (choice_between place (plain_pred c) (plain_sorted a) (plain_sorted b)) result }
 {
     match (a, b) {
-        (Sorted::Term(t), Sorted::Term(u)) => choice_of_terms(alloc, place, c, t, u),
+        (Sorted::Term(t), Sorted::Term(u)) => choice_of_values(alloc, place, c, t, u),
         (a, b) => branch(alloc, place, c, a, b),
     }
 }

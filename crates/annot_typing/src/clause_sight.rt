@@ -9,7 +9,7 @@ ghost use Rattle.annot_typing.specs.Sights.{plain_clause};
 use c_scopes::label::Labels;
 use c_scopes::sight::Mark;
 use c_scopes::tag::Tags;
-use c_syntax::CType;
+use c_syntax::{CType, Place};
 
 /// What a clause may name, besides what is in sight where it stands.
 #[derive(Clone, Copy)]
@@ -24,11 +24,19 @@ pub enum ClauseSight<'a> {
     UnderLabel(Option<&'a Tags>),
 }
 
+/// What a form of a clause may name, besides what is in sight where the clause stands.
+#[derive(Clone, Copy)]
+pub struct FormSight<'a> {
+    pub clause: ClauseSight<'a>,
+    /// The binders of quantifiers, the innermost last, each with the place of its declaration and its name.
+    pub binders: &'a [(Place, u32)],
+}
+
 /// What is in sight of a term at a label: what a mark tells, and what else it may name.
 #[derive(Clone, Copy)]
 pub struct View<'a> {
     pub mark: Mark,
-    pub clause: ClauseSight<'a>,
+    pub clause: FormSight<'a>,
 }
 
 /// Whether the number of a declaration is that of a parameter, in an `ensures`.

@@ -48,7 +48,7 @@ fn type_kinds(
     for i in 0..annots.len() {
         let annot = &mut annots[i];
         let clause = sight_of_kind(formals, ctype, annot.kind);
-        type_clause(alloc, sight, clause, &mut annot.body)?;
+        type_clause(alloc, sight, clause, annot.kind, &mut annot.body)?;
     }
     Ok(())
 }
@@ -120,7 +120,7 @@ fn check_cover(names: &Tags, body: &Body) -> Result<(), TypeFault>
 {
     match body {
         Body::Names(used) => known_behaviors(names, used),
-        Body::Raw(_) | Body::Truth(_) => Ok(()),
+        Body::Raw(_) | Body::Truth(_) | Body::Value(_) => Ok(()),
     }
 }
 

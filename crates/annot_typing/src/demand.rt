@@ -3,7 +3,8 @@
 
 ghost use Rattle.std.specs.Prelude.{◌≡◌};
 ghost use Rattle.c_syntax.specs.Logic.{plain_pred, plain_term};
-ghost use Rattle.c_model.specs.PredicateTyping.{as_integer, as_pointer, as_predicate, as_term, as_value, clause_holds, integer_holds};
+ghost use Rattle.c_model.specs.PredicateTyping.{as_integer, as_pointer, as_predicate, as_term, as_value, clause_holds, integer_holds, integer_value};
+ghost use Rattle.c_model.specs.PredicateTyping.{variant_value};
 ghost use Rattle.c_scopes.specs.Answers.{Answers};
 ghost use Rattle.annot_typing.specs.Sorts.{plain_pointer, plain_sorted};
 
@@ -106,5 +107,28 @@ pub fn clause_holds(alloc: Global, a: Sorted) -> Result<Pred, TypeFault>
             let place = t.place;
             integer_holds(alloc, place, t)
         }
+    }
+}
+
+/// An integer, which a variant is; what is none is a fault at its own place.
+#[tactic(auto, using(crate::proofs::Kept::place_kept))]
+fn integer_value(t: Term) -> Result<Term, TypeFault>
+    ensures { Answers plain_term (integer_value (plain_term t)) result }
+{
+    match sort_of(&t) {
+        ValueSort::Integer => Ok(t),
+        ValueSort::Pointer(_) | ValueSort::NoValue => Err(no_type(t.place)),
+    }
+}
+
+/// The value of a variant.
+#[tactic(auto, using(crate::proofs::Kept::predicate_place_kept))]
+pub fn variant_value(a: Sorted) -> Result<Term, TypeFault>
+    ensures { Answers plain_term (variant_value (plain_sorted a)) result }
+{
+    match a {
+        Sorted::Term(t) => integer_value(t),
+        Sorted::Predicate(p) => Err(no_type(p.place)),
+        Sorted::Place(t) => integer_value(t),
     }
 }

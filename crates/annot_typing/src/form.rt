@@ -2,33 +2,35 @@
 //! is in sight there, and the sight is as before after it.
 
 ghost use Rattle.std.specs.Prelude.{◌≡◌, None};
-ghost use Rattle.c_syntax.specs.Formulas.{Arrow, Asks, At, Binary, Cast, Chain, Choice, Connected, Dot, Index, Integers, OfC, Old, Separated, Told, Unary};
+ghost use Rattle.c_syntax.specs.Formulas.{Arrow, Asks, Binary, Cast, Chain, Choice, Connected, Dot, Index, OfC, Separated, Told, Unary};
 ghost use Rattle.c_syntax.specs.Formulas.{plain_form, plain_form_kind, plain_form_links, plain_form_zone, plain_form_zones};
 ghost use Rattle.c_syntax.specs.Ctypes.{plain_type};
 ghost use Rattle.c_syntax.specs.Logic.{plain_links, plain_zones};
 ghost use Rattle.c_syntax.specs.declared.logic.MemoryQuestion.TheVariants.{ValidRead};
 ghost use Rattle.c_model.specs.Checked.{one_part, pair_of};
-ghost use Rattle.c_model.specs.PredicateTyping.{has_past, labelled, right_side, side_of, typed_form};
+ghost use Rattle.c_model.specs.PredicateTyping.{is_refused, labelled, right_side, side_of, typed_form};
 ghost use Rattle.c_model.specs.PredicateTyping.{typed_links, typed_zone, typed_zones, value_in, where_seen};
 ghost use Rattle.c_scopes.specs.Answers.{Answers};
 ghost use Rattle.c_scopes.specs.Sights.{plain_sight};
 ghost use Rattle.annot_typing.specs.Relations.{plain_chain, plain_link, plain_side};
-ghost use Rattle.annot_typing.specs.Sights.{annotation_sight, plain_view};
+ghost use Rattle.annot_typing.specs.Forms.{FormTyped};
+ghost use Rattle.annot_typing.specs.Sights.{form_sight, plain_view};
 ghost use Rattle.annot_typing.specs.Sorts.{plain_sorted, plain_three, plain_two};
 ghost use Rattle.annot_typing.specs.Zones.{plain_zone, plain_zone_and_rest};
 
 use crate::cast::{cast, cast_integer, type_size};
 use crate::chain::{Side, linked, related, right_side, side_of};
 use crate::choice::{chosen, connected};
-use crate::clause_sight::{ClauseSight, View};
+use crate::clause_sight::{FormSight, View};
 use crate::demand::as_value;
 use crate::joined::joined;
 use crate::label::{at_label, has_old, is_past, label_named, result_in, view_at};
 use crate::name::{null, term_named};
 use crate::operator::{binary_on, unary_on};
-use crate::past::has_past;
+use crate::past::is_refused;
 use crate::places::{arrow, dot};
 use crate::pointer::index;
+use crate::quantified::type_quantified;
 use crate::sorted::{Sorted, integer, predicate};
 use crate::zone::{another, elements_zone, object_zone, told};
 use c_expression_rules::expression::type_written;
@@ -40,7 +42,7 @@ use c_syntax::logic::{
     BlockFact, Connective, Formula, FormulaKind, FormulaLinks, FormulaZone, FormulaZones, Label,
     Links, LogicType, MemoryQuestion, PredKind, Term, TermKind, Zone, Zones,
 };
-use c_syntax::{BinOp, CType, Place, Relation, UnOp};
+use c_syntax::{BinOp, CType, Place, UnOp};
 use std::alloc::Global;
 
 /// What a form is, or its first fault.
@@ -48,10 +50,10 @@ use std::alloc::Global;
 pub fn type_form(
     alloc: Global,
     sight: &mut Sight,
-    clause: ClauseSight<'_>,
+    clause: FormSight<'_>,
     f: &Formula,
 ) -> Result<Sorted, TypeFault>
-    ensures typed { Answers plain_sorted (typed_form (annotation_sight (plain_sight sight.old) clause.entry) (plain_form f.now)) result }
+    ensures typed { FormTyped (plain_sight sight.old) clause.entry (plain_form f.now) result }
     ensures same { sight.new ≡ sight.old }
 {
     type_kind(alloc, sight, clause, f.place, &f.kind)
@@ -62,10 +64,10 @@ pub fn type_form(
 pub fn type_value(
     alloc: Global,
     sight: &mut Sight,
-    clause: ClauseSight<'_>,
+    clause: FormSight<'_>,
     f: &Formula,
 ) -> Result<Sorted, TypeFault>
-    ensures typed { Answers plain_sorted (value_in (typed_form (annotation_sight (plain_sight sight.old) clause.entry) (plain_form f.now))) result }
+    ensures typed { Answers plain_sorted (value_in (typed_form (form_sight (plain_sight sight.old) clause.entry) (plain_form f.now))) result }
     ensures same { sight.new ≡ sight.old }
 {
     let a = type_form(alloc, sight, clause, f)?;
@@ -76,11 +78,11 @@ pub fn type_value(
 fn type_kind(
     alloc: Global,
     sight: &mut Sight,
-    clause: ClauseSight<'_>,
+    clause: FormSight<'_>,
     place: Place,
     kind: &FormulaKind,
 ) -> Result<Sorted, TypeFault>
-    ensures typed { Answers plain_sorted (typed_form (annotation_sight (plain_sight sight.old) clause.entry) (plain_form_kind place kind.now)) result }
+    ensures typed { FormTyped (plain_sight sight.old) clause.entry (plain_form_kind place kind.now) result }
     ensures same { sight.new ≡ sight.old }
 {
     match kind {
@@ -97,9 +99,10 @@ fn type_kind(
         }
         FormulaKind::Choice(c, a, b) => type_choice(alloc, sight, clause, place, c, a, b),
         FormulaKind::Chain(a, links) => type_chain(alloc, sight, clause, place, a, links),
-        FormulaKind::Cast(LogicType::Integer, a) => type_integer_cast(
-            alloc, sight, clause, place, a,
-        ),
+        FormulaKind::Cast(LogicType::Integer, a) => {
+            let a = type_value(alloc, sight, clause, a)?;
+            cast_integer(alloc, place, LogicType::Integer, a)
+        }
         FormulaKind::Cast(LogicType::Of(to), a) => type_cast(alloc, sight, clause, place, to, a),
         FormulaKind::Index(a, b) => type_index(alloc, sight, clause, place, a, b),
         FormulaKind::Dot(a, m) => type_dot(alloc, sight, clause, place, a, *m),
@@ -107,9 +110,21 @@ fn type_kind(
         FormulaKind::Told(fact, a) => type_told(alloc, sight, clause, place, *fact, a),
         FormulaKind::Asks(question, z) => type_asked(alloc, sight, clause, place, *question, z),
         FormulaKind::Separated(zones) => type_separated(alloc, sight, clause, place, zones),
-        FormulaKind::Result => result_in(alloc, clause, place),
-        FormulaKind::Old(a) => type_old(alloc, sight, clause, place, a),
-        FormulaKind::At(a, at, name) => type_at(alloc, sight, clause, place, a, *at, *name),
+        FormulaKind::Result => result_in(alloc, clause.clause, place),
+        FormulaKind::Old(a) => {
+            if has_old(clause.clause) {
+                type_labelled(alloc, sight, clause, place, place, Some(Label::Pre), a)
+            } else {
+                Err(no_label(place))
+            }
+        }
+        FormulaKind::At(a, at, name) => {
+            let label = label_named(sight, clause.clause, *name);
+            type_labelled(alloc, sight, clause, place, *at, label, a)
+        }
+        FormulaKind::Quantified(quantifier, to, names, a) => {
+            type_quantified(alloc, sight, clause, place, *quantifier, to, names, a)
+        }
     }
 }
 
@@ -117,12 +132,12 @@ fn type_kind(
 fn type_unary(
     alloc: Global,
     sight: &mut Sight,
-    clause: ClauseSight<'_>,
+    clause: FormSight<'_>,
     place: Place,
     op: UnOp,
     a: &Formula,
 ) -> Result<Sorted, TypeFault>
-    ensures typed { Answers plain_sorted (typed_form (annotation_sight (plain_sight sight.old) clause.entry) (Unary place op (plain_form a.now))) result }
+    ensures typed { FormTyped (plain_sight sight.old) clause.entry (Unary place op (plain_form a.now)) result }
     ensures same { sight.new ≡ sight.old }
 {
     let a = type_form(alloc, sight, clause, a)?;
@@ -133,14 +148,13 @@ fn type_unary(
 fn type_binary(
     alloc: Global,
     sight: &mut Sight,
-    clause: ClauseSight<'_>,
+    clause: FormSight<'_>,
     place: Place,
     op: BinOp,
     a: &Formula,
     b: &Formula,
 ) -> Result<Sorted, TypeFault>
-    ensures typed { Answers plain_sorted
-        (typed_form (annotation_sight (plain_sight sight.old) clause.entry) (Binary place op (plain_form a.now) (plain_form b.now))) result }
+    ensures typed { FormTyped (plain_sight sight.old) clause.entry (Binary place op (plain_form a.now) (plain_form b.now)) result }
     ensures same { sight.new ≡ sight.old }
 {
     let (a, b) = type_two(alloc, sight, clause, a, b)?;
@@ -151,14 +165,13 @@ fn type_binary(
 fn type_connected(
     alloc: Global,
     sight: &mut Sight,
-    clause: ClauseSight<'_>,
+    clause: FormSight<'_>,
     place: Place,
     connective: Connective,
     a: &Formula,
     b: &Formula,
 ) -> Result<Sorted, TypeFault>
-    ensures typed { Answers plain_sorted
-        (typed_form (annotation_sight (plain_sight sight.old) clause.entry) (Connected place connective (plain_form a.now) (plain_form b.now))) result }
+    ensures typed { FormTyped (plain_sight sight.old) clause.entry (Connected place connective (plain_form a.now) (plain_form b.now)) result }
     ensures same { sight.new ≡ sight.old }
 {
     let (a, b) = type_two(alloc, sight, clause, a, b)?;
@@ -169,14 +182,13 @@ fn type_connected(
 fn type_choice(
     alloc: Global,
     sight: &mut Sight,
-    clause: ClauseSight<'_>,
+    clause: FormSight<'_>,
     place: Place,
     c: &Formula,
     a: &Formula,
     b: &Formula,
 ) -> Result<Sorted, TypeFault>
-    ensures typed { Answers plain_sorted
-        (typed_form (annotation_sight (plain_sight sight.old) clause.entry) (Choice place (plain_form c.now) (plain_form a.now) (plain_form b.now))) result }
+    ensures typed { FormTyped (plain_sight sight.old) clause.entry (Choice place (plain_form c.now) (plain_form a.now) (plain_form b.now)) result }
     ensures same { sight.new ≡ sight.old }
 {
     let (c, (a, b)) = type_three(alloc, sight, clause, c, a, b)?;
@@ -187,13 +199,12 @@ fn type_choice(
 fn type_chain(
     alloc: Global,
     sight: &mut Sight,
-    clause: ClauseSight<'_>,
+    clause: FormSight<'_>,
     place: Place,
     a: &Formula,
     links: &FormulaLinks,
 ) -> Result<Sorted, TypeFault>
-    ensures typed { Answers plain_sorted
-        (typed_form (annotation_sight (plain_sight sight.old) clause.entry) (Chain place (plain_form a.now) (plain_form_links links.now))) result }
+    ensures typed { FormTyped (plain_sight sight.old) clause.entry (Chain place (plain_form a.now) (plain_form_links links.now)) result }
     ensures same { sight.new ≡ sight.old }
 {
     let (a, links) = type_sides(alloc, sight, clause, a, links)?;
@@ -201,31 +212,15 @@ fn type_chain(
 }
 
 #[cycle(form)]
-fn type_integer_cast(
-    alloc: Global,
-    sight: &mut Sight,
-    clause: ClauseSight<'_>,
-    place: Place,
-    a: &Formula,
-) -> Result<Sorted, TypeFault>
-    ensures typed { Answers plain_sorted (typed_form (annotation_sight (plain_sight sight.old) clause.entry) (Cast place Integers (plain_form a.now))) result }
-    ensures same { sight.new ≡ sight.old }
-{
-    let a = type_value(alloc, sight, clause, a)?;
-    cast_integer(alloc, place, LogicType::Integer, a)
-}
-
-#[cycle(form)]
 fn type_index(
     alloc: Global,
     sight: &mut Sight,
-    clause: ClauseSight<'_>,
+    clause: FormSight<'_>,
     place: Place,
     a: &Formula,
     b: &Formula,
 ) -> Result<Sorted, TypeFault>
-    ensures typed { Answers plain_sorted
-        (typed_form (annotation_sight (plain_sight sight.old) clause.entry) (Index place (plain_form a.now) (plain_form b.now))) result }
+    ensures typed { FormTyped (plain_sight sight.old) clause.entry (Index place (plain_form a.now) (plain_form b.now)) result }
     ensures same { sight.new ≡ sight.old }
 {
     let (a, b) = type_two(alloc, sight, clause, a, b)?;
@@ -236,12 +231,12 @@ fn type_index(
 fn type_dot(
     alloc: Global,
     sight: &mut Sight,
-    clause: ClauseSight<'_>,
+    clause: FormSight<'_>,
     place: Place,
     a: &Formula,
     name: u32,
 ) -> Result<Sorted, TypeFault>
-    ensures typed { Answers plain_sorted (typed_form (annotation_sight (plain_sight sight.old) clause.entry) (Dot place (plain_form a.now) name)) result }
+    ensures typed { FormTyped (plain_sight sight.old) clause.entry (Dot place (plain_form a.now) name) result }
     ensures same { sight.new ≡ sight.old }
 {
     let a = type_form(alloc, sight, clause, a)?;
@@ -252,12 +247,12 @@ fn type_dot(
 fn type_arrow(
     alloc: Global,
     sight: &mut Sight,
-    clause: ClauseSight<'_>,
+    clause: FormSight<'_>,
     place: Place,
     a: &Formula,
     name: u32,
 ) -> Result<Sorted, TypeFault>
-    ensures typed { Answers plain_sorted (typed_form (annotation_sight (plain_sight sight.old) clause.entry) (Arrow place (plain_form a.now) name)) result }
+    ensures typed { FormTyped (plain_sight sight.old) clause.entry (Arrow place (plain_form a.now) name) result }
     ensures same { sight.new ≡ sight.old }
 {
     let a = type_value(alloc, sight, clause, a)?;
@@ -268,12 +263,12 @@ fn type_arrow(
 fn type_told(
     alloc: Global,
     sight: &mut Sight,
-    clause: ClauseSight<'_>,
+    clause: FormSight<'_>,
     place: Place,
     fact: BlockFact,
     a: &Formula,
 ) -> Result<Sorted, TypeFault>
-    ensures typed { Answers plain_sorted (typed_form (annotation_sight (plain_sight sight.old) clause.entry) (Told place fact (plain_form a.now))) result }
+    ensures typed { FormTyped (plain_sight sight.old) clause.entry (Told place fact (plain_form a.now)) result }
     ensures same { sight.new ≡ sight.old }
 {
     let a = type_value(alloc, sight, clause, a)?;
@@ -284,13 +279,12 @@ fn type_told(
 fn type_asked(
     alloc: Global,
     sight: &mut Sight,
-    clause: ClauseSight<'_>,
+    clause: FormSight<'_>,
     place: Place,
     question: MemoryQuestion,
     z: &FormulaZone,
 ) -> Result<Sorted, TypeFault>
-    ensures typed { Answers plain_sorted
-        (typed_form (annotation_sight (plain_sight sight.old) clause.entry) (Asks place question (plain_form_zone z.now))) result }
+    ensures typed { FormTyped (plain_sight sight.old) clause.entry (Asks place question (plain_form_zone z.now)) result }
     ensures same { sight.new ≡ sight.old }
 {
     let z = type_zone(alloc, sight, clause, question, place, z)?;
@@ -301,12 +295,11 @@ fn type_asked(
 fn type_separated(
     alloc: Global,
     sight: &mut Sight,
-    clause: ClauseSight<'_>,
+    clause: FormSight<'_>,
     place: Place,
     zones: &FormulaZones,
 ) -> Result<Sorted, TypeFault>
-    ensures typed { Answers plain_sorted
-        (typed_form (annotation_sight (plain_sight sight.old) clause.entry) (Separated place (plain_form_zones zones.now))) result }
+    ensures typed { FormTyped (plain_sight sight.old) clause.entry (Separated place (plain_form_zones zones.now)) result }
     ensures same { sight.new ≡ sight.old }
 {
     let zones = type_zones(alloc, sight, clause, place, zones)?;
@@ -318,11 +311,11 @@ fn type_separated(
 fn type_two(
     alloc: Global,
     sight: &mut Sight,
-    clause: ClauseSight<'_>,
+    clause: FormSight<'_>,
     a: &Formula,
     b: &Formula,
 ) -> Result<(Sorted, Sorted), TypeFault>
-    ensures typed { let s = annotation_sight (plain_sight sight.old) clause.entry in
+    ensures typed { let s = form_sight (plain_sight sight.old) clause.entry in
         Answers plain_two (pair_of (value_in (typed_form s (plain_form a.now))) (value_in (typed_form s (plain_form b.now)))) result }
     ensures same { sight.new ≡ sight.old }
 {
@@ -336,12 +329,12 @@ fn type_two(
 fn type_three(
     alloc: Global,
     sight: &mut Sight,
-    clause: ClauseSight<'_>,
+    clause: FormSight<'_>,
     c: &Formula,
     a: &Formula,
     b: &Formula,
 ) -> Result<(Sorted, (Sorted, Sorted)), TypeFault>
-    ensures typed { let s = annotation_sight (plain_sight sight.old) clause.entry in
+    ensures typed { let s = form_sight (plain_sight sight.old) clause.entry in
         Answers plain_three (pair_of (value_in (typed_form s (plain_form c.now)))
         (pair_of (value_in (typed_form s (plain_form a.now))) (value_in (typed_form s (plain_form b.now))))) result }
     ensures same { sight.new ≡ sight.old }
@@ -356,13 +349,12 @@ fn type_three(
 fn type_cast(
     alloc: Global,
     sight: &mut Sight,
-    clause: ClauseSight<'_>,
+    clause: FormSight<'_>,
     place: Place,
     to: &CType,
     a: &Formula,
 ) -> Result<Sorted, TypeFault>
-    ensures typed { Answers plain_sorted
-        (typed_form (annotation_sight (plain_sight sight.old) clause.entry) (Cast place (OfC (plain_type to.now)) (plain_form a.now))) result }
+    ensures typed { FormTyped (plain_sight sight.old) clause.entry (Cast place (OfC (plain_type to.now)) (plain_form a.now)) result }
     ensures same { sight.new ≡ sight.old }
 {
     let mut u = copy_type(alloc, to)?;
@@ -380,11 +372,11 @@ fn type_cast(
 fn type_sides(
     alloc: Global,
     sight: &mut Sight,
-    clause: ClauseSight<'_>,
+    clause: FormSight<'_>,
     a: &Formula,
     links: &FormulaLinks,
 ) -> Result<(Sorted, Links), TypeFault>
-    ensures typed { let s = annotation_sight (plain_sight sight.old) clause.entry in let f = plain_form a.now in let v = value_in (typed_form s f) in
+    ensures typed { let s = form_sight (plain_sight sight.old) clause.entry in let f = plain_form a.now in let v = value_in (typed_form s f) in
         Answers plain_chain (pair_of v (typed_links s (side_of f v) (plain_form_links links.now))) result }
     ensures same { sight.new ≡ sight.old }
 {
@@ -399,12 +391,12 @@ fn type_sides(
 fn type_links(
     alloc: Global,
     sight: &mut Sight,
-    clause: ClauseSight<'_>,
+    clause: FormSight<'_>,
     left: Side,
     links: &FormulaLinks,
 ) -> Result<Links, TypeFault>
     ensures typed { Answers plain_links
-        (typed_links (annotation_sight (plain_sight sight.old) clause.entry) (plain_side left) (plain_form_links links.now)) result }
+        (typed_links (form_sight (plain_sight sight.old) clause.entry) (plain_side left) (plain_form_links links.now)) result }
     ensures same { sight.new ≡ sight.old }
 {
     match links {
@@ -421,13 +413,13 @@ fn type_links(
 fn type_link(
     alloc: Global,
     sight: &mut Sight,
-    clause: ClauseSight<'_>,
+    clause: FormSight<'_>,
     left: Side,
     place: Place,
     b: &Formula,
     rest: &FormulaLinks,
 ) -> Result<(Term, Links), TypeFault>
-    ensures typed { let s = annotation_sight (plain_sight sight.old) clause.entry in let f = plain_form b.now in let v = value_in (typed_form s f) in
+    ensures typed { let s = form_sight (plain_sight sight.old) clause.entry in let f = plain_form b.now in let v = value_in (typed_form s f) in
         Answers plain_link (pair_of (one_part v (right_side place (plain_side left) (side_of f v)))
         (typed_links s (side_of f v) (plain_form_links rest.now))) result }
     ensures same { sight.new ≡ sight.old }
@@ -443,12 +435,12 @@ fn type_link(
 fn type_zone(
     alloc: Global,
     sight: &mut Sight,
-    clause: ClauseSight<'_>,
+    clause: FormSight<'_>,
     question: MemoryQuestion,
     place: Place,
     z: &FormulaZone,
 ) -> Result<Zone, TypeFault>
-    ensures typed { Answers plain_zone (typed_zone (annotation_sight (plain_sight sight.old) clause.entry) question place (plain_form_zone z.now)) result }
+    ensures typed { Answers plain_zone (typed_zone (form_sight (plain_sight sight.old) clause.entry) question place (plain_form_zone z.now)) result }
     ensures same { sight.new ≡ sight.old }
 {
     match z {
@@ -468,11 +460,11 @@ fn type_zone(
 fn type_zones(
     alloc: Global,
     sight: &mut Sight,
-    clause: ClauseSight<'_>,
+    clause: FormSight<'_>,
     place: Place,
     zones: &FormulaZones,
 ) -> Result<Zones, TypeFault>
-    ensures typed { Answers plain_zones (typed_zones (annotation_sight (plain_sight sight.old) clause.entry) place (plain_form_zones zones.now)) result }
+    ensures typed { Answers plain_zones (typed_zones (form_sight (plain_sight sight.old) clause.entry) place (plain_form_zones zones.now)) result }
     ensures same { sight.new ≡ sight.old }
 {
     match zones {
@@ -489,12 +481,12 @@ fn type_zones(
 fn type_first_zone(
     alloc: Global,
     sight: &mut Sight,
-    clause: ClauseSight<'_>,
+    clause: FormSight<'_>,
     place: Place,
     z: &FormulaZone,
     rest: &FormulaZones,
 ) -> Result<(Zone, Zones), TypeFault>
-    ensures typed { let s = annotation_sight (plain_sight sight.old) clause.entry in
+    ensures typed { let s = form_sight (plain_sight sight.old) clause.entry in
         Answers plain_zone_and_rest
         (pair_of (typed_zone s ValidRead place (plain_form_zone z.now)) (typed_zones s place (plain_form_zones rest.now))) result }
     ensures same { sight.new ≡ sight.old }
@@ -504,49 +496,12 @@ fn type_first_zone(
     joined(first, rest)
 }
 
-/// A form at the beginning of the call, in an `ensures`.
-#[cycle(form)]
-fn type_old(
-    alloc: Global,
-    sight: &mut Sight,
-    clause: ClauseSight<'_>,
-    place: Place,
-    a: &Formula,
-) -> Result<Sorted, TypeFault>
-    ensures typed { Answers plain_sorted (typed_form (annotation_sight (plain_sight sight.old) clause.entry) (Old place (plain_form a.now))) result }
-    ensures same { sight.new ≡ sight.old }
-{
-    if has_old(clause) {
-        type_labelled(alloc, sight, clause, place, place, Some(Label::Pre), a)
-    } else {
-        Err(no_label(place))
-    }
-}
-
-/// A form at the label of a name.
-#[cycle(form)]
-fn type_at(
-    alloc: Global,
-    sight: &mut Sight,
-    clause: ClauseSight<'_>,
-    place: Place,
-    a: &Formula,
-    at: Place,
-    name: u32,
-) -> Result<Sorted, TypeFault>
-    ensures typed { Answers plain_sorted (typed_form (annotation_sight (plain_sight sight.old) clause.entry) (At place (plain_form a.now) at name)) result }
-    ensures same { sight.new ≡ sight.old }
-{
-    let label = label_named(sight, clause, name);
-    type_labelled(alloc, sight, clause, place, at, label, a)
-}
-
 /// A form at a label whose name stands at the second place: one with `\old` or `\at` in it is refused before its names are looked at.
 #[cycle(form)]
 fn type_labelled(
     alloc: Global,
     sight: &mut Sight,
-    clause: ClauseSight<'_>,
+    clause: FormSight<'_>,
     place: Place,
     at: Place,
     label: Option<Label>,
@@ -554,13 +509,14 @@ fn type_labelled(
 ) -> Result<Sorted, TypeFault>
     ensures typed { let f = plain_form a.now in
         Answers plain_sorted
-        (labelled (annotation_sight (plain_sight sight.old) clause.entry) place at label (λ b. has_past b f) (λ u. typed_form u f)) result }
+        (labelled (form_sight (plain_sight sight.old) clause.entry) place at label (is_refused (form_sight (plain_sight sight.old) clause.entry) f)
+        (λ u. typed_form u f)) result }
     ensures same { sight.new ≡ sight.old }
 {
     match label {
         None => type_unlabelled(alloc, sight, clause, place, at, a),
         Some(label) => {
-            if has_past(is_past(label), a) {
+            if is_refused(clause, is_past(label), a) {
                 Err(no_label(place))
             } else {
                 type_seen(alloc, sight, clause, place, label, a)
@@ -574,16 +530,17 @@ fn type_labelled(
 fn type_unlabelled(
     alloc: Global,
     sight: &mut Sight,
-    clause: ClauseSight<'_>,
+    clause: FormSight<'_>,
     place: Place,
     at: Place,
     a: &Formula,
 ) -> Result<Sorted, TypeFault>
     ensures typed { let f = plain_form a.now in
-        Answers plain_sorted (labelled (annotation_sight (plain_sight sight.old) clause.entry) place at None (λ b. has_past b f) (λ u. typed_form u f)) result }
+        Answers plain_sorted (labelled (form_sight (plain_sight sight.old) clause.entry) place at None
+        (is_refused (form_sight (plain_sight sight.old) clause.entry) f) (λ u. typed_form u f)) result }
     ensures same { sight.new ≡ sight.old }
 {
-    if has_past(true, a) {
+    if is_refused(clause, true, a) {
         return Err(no_label(place));
     }
     type_value(alloc, sight, clause, a)?;
@@ -595,13 +552,13 @@ fn type_unlabelled(
 fn type_seen(
     alloc: Global,
     sight: &mut Sight,
-    clause: ClauseSight<'_>,
+    clause: FormSight<'_>,
     place: Place,
     label: Label,
     a: &Formula,
 ) -> Result<Sorted, TypeFault>
     ensures typed { let f = plain_form a.now in
-        Answers plain_sorted (where_seen (annotation_sight (plain_sight sight.old) clause.entry) label place (λ u. typed_form u f)) result }
+        Answers plain_sorted (where_seen (form_sight (plain_sight sight.old) clause.entry) label place (λ u. typed_form u f)) result }
     ensures same { sight.new ≡ sight.old }
 {
     match view_at(sight, clause, label) {

@@ -1,24 +1,25 @@
 //! Labels of annotations (ACSL 2.4.3), and the result of a function (ACSL 2.3.1).
 
-ghost use Rattle.std.specs.Prelude.{◌≡◌, option_map};
+ghost use Rattle.std.specs.Prelude.{◌≡◌, [], option_map};
 ghost use Rattle.c_syntax.specs.declared.logic.Label.TheVariants.{Marked, Pre};
 ghost use Rattle.c_model.specs.ExpressionTyping as plain;
-ghost use Rattle.c_model.specs.AnnotationSights.{is_past, label_named, label_of_c, sight_at};
+ghost use Rattle.c_model.specs.AnnotationSights.{UnderLabel, is_past, label_named, label_of_c, sight_at};
 ghost use Rattle.c_model.specs.PredicateTyping.{at_label, has_old, result_in};
 ghost use Rattle.c_scopes.specs.Answers.{Answers};
-ghost use Rattle.c_scopes.specs.KnownLabels.{known_labels, marks_of};
+ghost use Rattle.c_scopes.specs.KnownLabels.{known_labels, marks_of, sight_of};
 ghost use Rattle.c_scopes.specs.Sights.{plain_sight};
-ghost use Rattle.annot_typing.specs.Sights.{annotation_sight, plain_clause, plain_view};
+ghost use Rattle.annot_typing.specs.Sights.{annotation_sight, form_sight, formals_of, plain_clause, plain_view};
 ghost use Rattle.annot_typing.specs.Sorts.{plain_sorted};
 
-use crate::clause_sight::{ClauseSight, View};
+use crate::clause_sight::{ClauseSight, FormSight, View};
 use crate::demand::as_term;
 use crate::sorted::{Sorted, term_of};
 use c_conversions::conversion::is_void;
 use c_scopes::entity::RESULT;
 use c_scopes::fault::{TypeFault, no_type};
 use c_scopes::label::Labels;
-use c_scopes::sight::{Sight, mark_here, name_at};
+use c_scopes::sight::{Mark, Sight, mark_here, name_at};
+use c_scopes::tag::Tags;
 use c_syntax::copy::copy_type;
 use c_syntax::logic::{Label, TermKind};
 use c_syntax::{Place, Use};
@@ -84,19 +85,26 @@ pub fn label_named(sight: &Sight, clause: ClauseSight<'_>, name: u32) -> Option<
     }
 }
 
+/// What is in sight under a label, where no binder is, with the numbers of the parameters in an `ensures`.
+fn under_label<'a>(mark: Mark, formals: Option<&'a Tags>) -> View<'a>
+    ensures { (s : plain.Sight) → plain_view s result
+        ≡ record { here = sight_of s mark; labels = []; clause = UnderLabel (formals_of formals.entry); binders = [] } }
+{
+    let clause = ClauseSight::UnderLabel(formals);
+    let clause = FormSight {
+        clause,
+        binders: &[],
+    };
+    View { mark, clause }
+}
+
 /// What is in sight where the call begins.
 fn view_of_beginning<'a>(sight: &Sight, clause: ClauseSight<'a>) -> Option<View<'a>>
     ensures { option_map (plain_view (plain_sight sight.now)) result ≡ sight_at (annotation_sight (plain_sight sight.now) clause.entry) Pre }
 {
     match clause {
-        ClauseSight::InBody(mark, _) => Some(View {
-            mark,
-            clause: ClauseSight::UnderLabel(None),
-        }),
-        ClauseSight::AtEnd(formals, _) => Some(View {
-            mark: mark_here(sight),
-            clause: ClauseSight::UnderLabel(Some(formals)),
-        }),
+        ClauseSight::InBody(mark, _) => Some(under_label(mark, None)),
+        ClauseSight::AtEnd(formals, _) => Some(under_label(mark_here(sight), Some(formals))),
         ClauseSight::AtEntry | ClauseSight::UnderLabel(_) => None,
     }
 }
@@ -108,26 +116,23 @@ fn view_of_label<'a>(sight: &Sight, clause: ClauseSight<'a>, name: u32) -> Optio
     match clause {
         ClauseSight::InBody(_, labels) => match labels.named(name) {
             None => None,
-            Some(mark) => Some(View {
-                mark,
-                clause: ClauseSight::UnderLabel(None),
-            }),
+            Some(mark) => Some(under_label(mark, None)),
         },
         ClauseSight::AtEntry | ClauseSight::AtEnd(..) | ClauseSight::UnderLabel(_) => None,
     }
 }
 
 /// What is in sight of a term at a label.
-pub fn view_at<'a>(sight: &Sight, clause: ClauseSight<'a>, label: Label) -> Option<View<'a>>
-    ensures { option_map (plain_view (plain_sight sight.now)) result ≡ sight_at (annotation_sight (plain_sight sight.now) clause.entry) label }
+pub fn view_at<'a>(sight: &Sight, clause: FormSight<'a>, label: Label) -> Option<View<'a>>
+    ensures { option_map (plain_view (plain_sight sight.now)) result ≡ sight_at (form_sight (plain_sight sight.now) clause.entry) label }
 {
     match label {
         Label::Here => Some(View {
             mark: mark_here(sight),
             clause,
         }),
-        Label::Pre => view_of_beginning(sight, clause),
-        Label::Marked(name) => view_of_label(sight, clause, name),
+        Label::Pre => view_of_beginning(sight, clause.clause),
+        Label::Marked(name) => view_of_label(sight, clause.clause, name),
     }
 }
 

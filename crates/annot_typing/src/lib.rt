@@ -20,6 +20,8 @@ mod operator;
 mod past;
 mod places;
 mod pointer;
+mod quantified;
+mod quantifier;
 pub mod sorted;
 mod zone;
 

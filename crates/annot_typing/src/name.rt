@@ -1,18 +1,19 @@
 //! Names of annotations (ACSL 2.2): objects, enumerators, constants of the library, and `NULL`.
 
-ghost use Rattle.std.specs.Prelude.{Some};
+ghost use Rattle.std.specs.Prelude.{◌≡◌, Some};
 ghost use Rattle.c_syntax.specs.Ctypes.{plain_type};
 ghost use Rattle.c_syntax.specs.Logic.{Variable};
+ghost use Rattle.c_model.specs.AnnotationSights.{binder_named};
 ghost use Rattle.c_model.specs.Checked.{Good};
 ghost use Rattle.c_model.specs.ExpressionTyping as plain;
-ghost use Rattle.c_model.specs.PredicateTyping.{ATerm, formal_value, library_term, null, object_place, range_to_infer, term_named};
+ghost use Rattle.c_model.specs.PredicateTyping.{ATerm, formal_value, library_term, named_in_c, null, object_place, range_to_infer, term_named};
 ghost use Rattle.c_scopes.specs.Answers.{Answers};
 ghost use Rattle.c_scopes.specs.Entity.{plain_object};
 ghost use Rattle.c_scopes.specs.Sights.{plain_sight};
-ghost use Rattle.annot_typing.specs.Sights.{annotation_sight, plain_clause};
+ghost use Rattle.annot_typing.specs.Sights.{annotation_sight, form_sight, plain_clause};
 ghost use Rattle.annot_typing.specs.Sorts.{plain_sorted};
 
-use crate::clause_sight::{ClauseSight, is_formal};
+use crate::clause_sight::{ClauseSight, FormSight, is_formal};
 use crate::label::at_label;
 use crate::sorted::{Sorted, integer, place_of, pointer, term_of};
 use c_expression_rules::call::is_null_word;
@@ -88,15 +89,15 @@ fn library_term(alloc: Global, sight: &Sight, place: Place, name: u32) -> Result
     }
 }
 
-/// What a name stands for; that of a function has no meaning in annotations.
-pub fn term_named(
+/// What a name of C stands for; that of a function has no meaning in annotations.
+fn named_in_c(
     alloc: Global,
     sight: &Sight,
     clause: ClauseSight<'_>,
     place: Place,
     name: u32,
 ) -> Result<Sorted, TypeFault>
-    ensures { Answers plain_sorted (term_named (annotation_sight (plain_sight sight.now) clause.entry) place name) result }
+    ensures { Answers plain_sorted (named_in_c (annotation_sight (plain_sight sight.now) clause.entry) place name) result }
 {
     match sight.entities.named(name) {
         Some(Entity::AnObject(object)) => object_place(alloc, clause, place, name, object),
@@ -104,5 +105,38 @@ pub fn term_named(
             integer(alloc, place, TermKind::Number(i128::from(enumerator.value)))
         }
         None => library_term(alloc, sight, place, name),
+    }
+}
+
+/// The place of the innermost binder of a name.
+#[tactic(auto, using(crate::proofs::Binders::named_here, crate::proofs::Binders::named_elsewhere))]
+fn binder_named(binders: &[(Place, u32)], name: u32) -> Option<Place>
+    ensures { result ≡ binder_named name binders.now }
+{
+    let mut found = None;
+    'binders: for binder in binders {
+        if name == binder.1 {
+            found = Some(binder.0);
+        }
+    }
+    found
+}
+
+/// What a name stands for: a binder, or what it does in C.
+pub fn term_named(
+    alloc: Global,
+    sight: &Sight,
+    clause: FormSight<'_>,
+    place: Place,
+    name: u32,
+) -> Result<Sorted, TypeFault>
+    ensures { Answers plain_sorted (term_named (form_sight (plain_sight sight.now) clause.entry) place name) result }
+{
+    match binder_named(clause.binders, name) {
+        Some(binder) => {
+            let decl = binder.offset;
+            integer(alloc, place, TermKind::Named(Use { name, decl }))
+        }
+        None => named_in_c(alloc, sight, clause.clause, place, name),
     }
 }

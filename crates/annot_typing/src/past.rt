@@ -1,15 +1,25 @@
 //! What may not stand under a label (ACSL 2.4.3).
 
-ghost use Rattle.std.specs.Prelude.{◌≡◌};
+ghost use Rattle.std.specs.Prelude.{◌≡◌, ◌||◌};
 ghost use Rattle.c_syntax.specs.declared.place.Place.{Place};
 ghost use Rattle.c_syntax.specs.Formulas.{plain_form, plain_form_kind, plain_form_links, plain_form_zone, plain_form_zones};
+ghost use Rattle.c_model.specs.QuantifierGuards.{mentions_any};
 ghost use Rattle.c_model.specs.PredicateTyping.{has_past, links_have_past, zone_has_past, zones_have_past};
 
+use crate::clause_sight::FormSight;
 use c_syntax::logic::{Formula, FormulaKind, FormulaLinks, FormulaZone, FormulaZones};
+use quantifier_guards::mentions_any;
+
+/// What may not stand under a label where `\result` may not either, or may: one of those, or a binder.
+pub fn is_refused(clause: FormSight<'_>, results: bool, f: &Formula) -> bool
+    ensures { let g = plain_form f.now in result ≡ (has_past results g || mentions_any clause.entry.binders.now g) }
+{
+    has_past(results, f) || mentions_any(clause.binders, f)
+}
 
 /// Whether `\old` or `\at` stands in a form, or `\result`, where that is asked for too.
 #[cycle(past)]
-pub fn has_past(results: bool, f: &Formula) -> bool
+fn has_past(results: bool, f: &Formula) -> bool
     ensures { result ≡ has_past results (plain_form f.now) }
 {
     kind_has_past(results, &f.kind)
@@ -42,6 +52,7 @@ fn kind_has_past(results: bool, kind: &FormulaKind) -> bool
         FormulaKind::Separated(zones) => zones_have_past(results, zones),
         FormulaKind::Result => results,
         FormulaKind::Old(_) | FormulaKind::At(..) => true,
+        FormulaKind::Quantified(_, _, _, a) => has_past(results, a),
     }
 }
 

@@ -1,7 +1,7 @@
 //! Why a tree isn't typed.
 
 ghost use Rattle.std.specs.Prelude.{◌≡◌, IfErr};
-ghost use Rattle.c_syntax.specs.RefusalCodes.{label_code, limit_code, name_code, type_code};
+ghost use Rattle.c_syntax.specs.RefusalCodes.{guard_code, label_code, limit_code, name_code, type_code};
 ghost use Rattle.c_model.specs.Checked.{rank};
 ghost use Rattle.c_scopes.specs.declared.fault.TypeFault.TheVariants.{Refused, Memory};
 ghost use Rattle.c_scopes.specs.Answers.{IsRefusal, both, lesser_of, plain_fault};
@@ -56,6 +56,16 @@ pub fn no_type(place: Place) -> TypeFault
 {
     TypeFault::Refused(Fault {
         code: code::TYPE,
+        place,
+    })
+}
+
+/// A quantifier without a guard.
+pub fn no_guard(place: Place) -> TypeFault
+    ensures { result ≡ Refused (record { code = guard_code; place = place }) }
+{
+    TypeFault::Refused(Fault {
+        code: code::GUARD,
         place,
     })
 }

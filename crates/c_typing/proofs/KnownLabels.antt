@@ -115,7 +115,7 @@ one_here s begin ls l h = record { start = h.start; labels = marks_joined s ls (
 
 -- what a clause may name, where more is in sight
 pub seen_more : (s t : Sight) (begin : Mark) (ls : List (ℕ × Mark)) → Grows s t → IsInBody s begin ls → record (seen_in_body s begin ls) { here = t } ≡ seen_in_body t begin ls
-seen_more s t begin ls g h = λ i. record { here = t; labels = sym (known_same s t g ls h.labels) i; clause = InBody (sym (g.same begin h.start) i) }
+seen_more s t begin ls g h = λ i. record { here = t; labels = sym (known_same s t g ls h.labels) i; clause = InBody (sym (g.same begin h.start) i); binders = [] }
 
 pub seen_inside : (s : Sight) (begin : Mark) (ls : List (ℕ × Mark)) → IsInBody s begin ls → inside_block (seen_in_body s begin ls) ≡ seen_in_body (inner s) begin ls
 seen_inside s begin ls h = seen_more s (inner s) begin ls (grows_inner s) h
@@ -127,7 +127,7 @@ seen_inside_for s begin ls first h = seen_more s (behind_first (inner s) first) 
 pub seen_label : (s : Sight) (begin : Mark) (ls : List (ℕ × Mark)) (l : ℕ) → with_label (seen_in_body s begin ls) l ≡ seen_in_body s begin (ls ++ (l, here s) ∷ [])
 seen_label s begin ls l =
     let now : s ≡ sight_of s (here s) = ap (λ es. record s { entities = es }) (sym (take_whole s.entities)) in
-    λ i. record { here = s; labels = (ap (λ (t : Sight). (l, t) ∷ known_labels s ls) now ∙ sym (known_more s ls (l, here s))) i; clause = InBody (sight_of s begin) }
+    λ i. record { here = s; labels = (ap (λ (t : Sight). (l, t) ∷ known_labels s ls) now ∙ sym (known_more s ls (l, here s))) i; clause = InBody (sight_of s begin); binders = [] }
 
 nothing_more : (s : Sight) (begin : Mark) (ls : List (ℕ × Mark)) → seen_in_body s begin ls ≡ seen_in_body s begin (ls ++ [])
 nothing_more s begin ls = ap (seen_in_body s begin) (sym (append-nil ls))
@@ -247,13 +247,13 @@ in_body_inside s t begin ls is h = subst (λ v. IsInBody v begin ls) (sym is) (i
 pub in_body_label : (s : Sight) (begin : Mark) (ls ks : List (ℕ × Mark)) (l : ℕ) (m : Mark) → m ≡ here s → ks ≡ ls ++ (l, m) ∷ [] → IsInBody s begin ls → IsInBody s begin ks
 in_body_label s begin ls ks l m is grown h = subst (IsInBody s begin) (sym (grown ∙ ap (λ m. ls ++ (l, m) ∷ []) is)) (one_here s begin ls l h)
 
-pub in_body_for : (s s' t u : Sight) (begin : Mark) (ls : List (ℕ × Mark)) (first : ForFirst) → s' ≡ s → t ≡ inner s' → u ≡ behind_first t first → IsInBody s begin ls → IsInBody u begin ls
-in_body_for s s' t u begin ls first now inside seen h =
-    subst (λ v. IsInBody v begin ls) (sym (seen ∙ ap (λ v. behind_first v first) (inside ∙ ap inner now))) (in_body_more s (behind_first (inner s) first) begin ls (grows_first s first) h)
+-- in a `for`, behind what stands first
+pub in_body_for : (s t u : Sight) (begin : Mark) (ls : List (ℕ × Mark)) (first : ForFirst) → t ≡ inner s → u ≡ behind_first t first → IsInBody s begin ls → IsInBody u begin ls
+in_body_for s t u begin ls first inside seen h =
+    subst (λ v. IsInBody v begin ls) (sym (seen ∙ ap (λ v. behind_first v first) inside)) (in_body_more s (behind_first (inner s) first) begin ls (grows_first s first) h)
 
-pub seen_for : (s s' t u : Sight) (begin : Mark) (ls : List (ℕ × Mark)) (first : ForFirst) → s' ≡ s → t ≡ inner s' → u ≡ behind_first t first → IsInBody s begin ls → seen_in_body u begin ls ≡ inside_for (seen_in_body s begin ls) first
-seen_for s s' t u begin ls first now inside seen h =
-    ap (λ v. seen_in_body v begin ls) (seen ∙ ap (λ v. behind_first v first) (inside ∙ ap inner now)) ∙ sym (seen_inside_for s begin ls first h)
+pub seen_for : (s t u : Sight) (begin : Mark) (ls : List (ℕ × Mark)) (first : ForFirst) → t ≡ inner s → u ≡ behind_first t first → IsInBody s begin ls → seen_in_body u begin ls ≡ inside_for (seen_in_body s begin ls) first
+seen_for s t u begin ls first inside seen h = ap (λ v. seen_in_body v begin ls) (seen ∙ ap (λ v. behind_first v first) inside) ∙ sym (seen_inside_for s begin ls first h)
 
 pub seen_at_label : (s : Sight) (begin : Mark) (ls ks : List (ℕ × Mark)) (l : ℕ) (m : Mark) → m ≡ here s → ks ≡ ls ++ (l, m) ∷ [] → seen_in_body s begin ks ≡ with_label (seen_in_body s begin ls) l
 seen_at_label s begin ls ks l m is grown = ap (seen_in_body s begin) (grown ∙ ap (λ m. ls ++ (l, m) ∷ []) is) ∙ sym (seen_label s begin ls l)
@@ -273,4 +273,4 @@ begins_body s m ls is none = subst (IsInBody s m) (sym none) (subst (λ m. IsInB
 
 pub seen_at_beginning : (s : Sight) (m : Mark) (ls : List (ℕ × Mark)) → m ≡ here s → ls ≡ [] → seen_in_body s m ls ≡ in_body s
 seen_at_beginning s m ls is none =
-    (λ i. seen_in_body s (is i) (none i)) ∙ (λ i. record { here = s; labels = []; clause = InBody (ap (λ es. record s { entities = es }) (take_whole s.entities) i) })
+    (λ i. seen_in_body s (is i) (none i)) ∙ (λ i. record { here = s; labels = []; clause = InBody (ap (λ es. record s { entities = es }) (take_whole s.entities) i); binders = [] })

@@ -1,5 +1,5 @@
 -- The asserts of a file's items in turn are those that the definition of a file types.
-use Rattle.std.proofs.Common.{◌≡◌, ℕ, suc, pos, refl, sym, ap, ◌∙◌, subst, List, [], ◌∷◌, ◌++◌, map, Bool, true, false, cond, nat_lt, Option, Some, Result, Ok, Err}
+use Rattle.std.proofs.Common.{◌≡◌, ℕ, suc, pos, refl, sym, ap, ◌∙◌, subst, List, [], ◌∷◌, ◌++◌, map, Bool, true, false, cond, nat_lt, Option, Result, Ok, Err}
 use Rattle.std.specs.Prelude.{OnOk, ℤ, ◌+ℤ◌}
 use Rattle.std.specs.List.{filter}
 use Rattle.c_syntax.specs.Programs.{EnumConstant, StructMember, StructType, Function, TranslationUnit}

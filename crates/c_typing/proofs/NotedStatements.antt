@@ -115,15 +115,27 @@ if_noted s t begin ls ks at e a a' b b' result now kept good h =
     (made_of (If at e a') (λ (u : Unit {0}). b') (noted_else v b) result (subst (λ w. Answers (λ (u : Unit {0}). b') (noted_else w b) result) (λ i. seen_in_body (now i) begin (kept i)) h))
 
 -- the clauses and the statement of a `for`
-pub for_noted : (s s' t v : Sight) (begin : Mark) (ls : List (ℕ × Mark)) (first : ForFirst) → s' ≡ s → t ≡ inner s' → v ≡ behind_first t first → IsInBody s begin ls
+pub for_noted : (s t u v : Sight) (begin : Mark) (ls : List (ℕ × Mark)) (first : ForFirst) → t ≡ inner s → u ≡ behind_first t first → v ≡ u → IsInBody s begin ls
     → (at : Place) (annots annots' : List Annotation) (e step : Option Expression) (a a' : Statement) (result : Result (Unit {0}) TypeFault)
-    → typed_annotations (seen_in_body s begin ls) annots ≡ Good annots' → Answers (λ (u : Unit {0}). a') (noted_statement (seen_in_body v begin ls) a) result
+    → typed_annotations (seen_in_body u begin ls) annots ≡ Good annots' → Answers (λ (u : Unit {0}). a') (noted_statement (seen_in_body v begin ls) a) result
     → Answers (λ (u : Unit {0}). For at annots' first e step a') (noted_statement (seen_in_body s begin ls) (For at annots first e step a)) result
-for_noted s s' t v begin ls first now inside seen known at annots annots' e step a a' result good h =
+for_noted s t u v begin ls first inside seen same known at annots annots' e step a a' result good h =
     let w = inside_for (seen_in_body s begin ls) first in
-    subst (λ m. Answers (λ (u : Unit {0}). For at annots' first e step a') (one_part m (λ annots. one_part (noted_statement w a) (λ a. Good (For at annots first e step a)))) result) (sym good)
+    let here = seen_for s t u begin ls first inside seen known in
+    subst (λ m. Answers (λ (u : Unit {0}). For at annots' first e step a') (one_part m (λ annots. one_part (noted_statement w a) (λ a. Good (For at annots first e step a)))) result)
+    (sym (subst (λ w. typed_annotations w annots ≡ Good annots') here good))
     (made_of (For at annots' first e step) (λ (u : Unit {0}). a') (noted_statement w a) result
-    (subst (λ w. Answers (λ (u : Unit {0}). a') (noted_statement w a) result) (seen_for s s' t v begin ls first now inside seen known) h))
+    (subst (λ w. Answers (λ (u : Unit {0}). a') (noted_statement w a) result) (ap (λ v. seen_in_body v begin ls) same ∙ here) h))
+
+-- annotations of a `for` that are refused
+pub for_refused : (s t u : Sight) (begin : Mark) (ls : List (ℕ × Mark)) (first : ForFirst) → t ≡ inner s → u ≡ behind_first t first → IsInBody s begin ls
+    → (at : Place) (annots annots' : List Annotation) (e step : Option Expression) (a a' : Statement) (f : TypeFault)
+    → Answers (λ (u : Unit {0}). annots') (typed_annotations (seen_in_body u begin ls) annots) (Err f)
+    → Answers (λ (u : Unit {0}). For at annots' first e step a') (noted_statement (seen_in_body s begin ls) (For at annots first e step a)) (Err f)
+for_refused s t u begin ls first inside seen known at annots annots' e step a a' f h =
+    let w = inside_for (seen_in_body s begin ls) first in
+    one_refused (λ annots. one_part (noted_statement w a) (λ a. Good (For at annots first e step a))) (λ (u : Unit {0}). annots') (λ (u : Unit {0}). For at annots' first e step a') (typed_annotations w annots) f
+    (subst (λ w. Answers (λ (u : Unit {0}). annots') (typed_annotations w annots) (Err f)) (seen_for s t u begin ls first inside seen known) h)
 
 -- a statement behind a label that stands here
 pub label_noted : (s : Sight) (begin : Mark) (ls ks : List (ℕ × Mark)) (l : ℕ) (m : Mark) (a b : Statement) (result : Result (Unit {0}) TypeFault) → m ≡ here s → ks ≡ ls ++ (l, m) ∷ []

@@ -1,6 +1,6 @@
 -- Ours: the contracts of a file (ACSL 2.3; c_model/specs/AnnotationTyping) in words of what the code keeps: the numbers of the parameters of each
 -- definition, and the contracts of names that are defined.
-use Rattle.std.specs.Prelude.{◌≡◌, ℕ, List, [], ◌∷◌, ◌++◌, map, nat_eq, Option, Some, None, option_map, Bool, true, false, ◌&&◌, cond}
+use Rattle.std.specs.Prelude.{◌≡◌, ℕ, List, [], ◌∷◌, ◌++◌, nat_eq, Option, Some, None, option_map, Bool, true, false, ◌&&◌, cond}
 use Rattle.std.specs.Global.{Vec}
 use Rattle.indexmap.specs.IndexMap.{IndexMap, get}
 use Rattle.c_syntax.specs.declared.annotation.Kind.{Kind}

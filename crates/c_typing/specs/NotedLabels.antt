@@ -33,7 +33,7 @@ marks_in_case m (Then i rest) = marks_of_item m i ++ marks_in_case m rest
 
 -- what a clause may name in a body that begins at a mark, where these labels are known
 abbrev pub seen_in_body : Sight → Mark → List (ℕ × Mark) → AnnotationSight
-seen_in_body s begin ls = record { here = s; labels = known_labels s ls; clause = InBody (sight_of s begin) }
+seen_in_body s begin ls = record { here = s; labels = known_labels s ls; clause = InBody (sight_of s begin); binders = [] }
 
 -- marks of what is in sight still
 abbrev pub AreMarks : Sight → List (ℕ × Mark) → Type 0

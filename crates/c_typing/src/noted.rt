@@ -204,7 +204,7 @@ fn note_while(
     note_statement(alloc, sight, labels, begin, a)
 }
 
-/// The clauses and the statement of a `for`, in which what stands first is in sight.
+/// The clauses and the statement of a `for`, in both of which what stands first is in sight.
 #[cycle(noted)]
 fn note_for(
     alloc: Global,
@@ -223,9 +223,9 @@ fn note_for(
     ensures same { OnOk result (plain_sight sight.new ≡ plain_sight sight.old) }
     ensures labels { OnOk result (marks_of labels.new ≡ marks_of labels.old) }
 {
-    note_clauses(alloc, sight, labels, begin, annots)?;
     let mark = enter(sight);
     see_first(alloc, sight, first)?;
+    note_clauses(alloc, sight, labels, begin, annots)?;
     note_statement(alloc, sight, labels, begin, a)?;
     leave(sight, mark);
     Ok(())

@@ -15,7 +15,7 @@ use Rattle.c_function_rules.proofs.Bodies.{body_left}
 use Rattle.c_function_rules.proofs.Statements.{block_left, for_left}
 use Rattle.c_typing.specs.NotedLabels.{IsInBody, marks_in_case, marks_in_items, here, seen_in_body}
 use Rattle.c_typing.proofs.KnownLabels.{begins_more, in_body_after, in_body_case, in_body_for, in_body_inside, in_body_label, labels_left, labels_more, longer_more, seen_after, seen_behind_case}
-use Rattle.c_typing.proofs.NotedStatements.{block_done, block_in_body, block_more, case_more, case_refused, for_in_place, for_noted, if_in_place, if_noted, label_noted, switch_noted, while_in_place}
+use Rattle.c_typing.proofs.NotedStatements.{block_done, block_in_body, block_more, case_more, case_refused, for_in_place, for_noted, for_refused, if_in_place, if_noted, label_noted, switch_noted, while_in_place}
 use Rattle.c_typing.proofs.noted.+noted.Goals as goal
 
 pub note_block-note_items-requires : goal.note_block-note_items-requires
@@ -79,31 +79,38 @@ note_kind-returns-in-Block-clause-noted t c = λ at.
 
 pub note_for-note_statement-requires : goal.note_for-note_statement-requires
 note_for-note_statement-requires t c =
-    let body = in_body_for (plain_sight c.args.sight.now) (plain_sight c.note_clauses.new.sight) (plain_sight c.enter-mark.new.sight) (plain_sight c.see_first.new.sight) c.args.begin (marks_of c.args.labels.now)
-    (plain_for_first c.args.first.now) c.note_clauses.ensures.same c.enter-mark.ensures.inner (search rules) c.requires in
-    search (rules, body) depth 8
+    let body = in_body_for (plain_sight c.args.sight.now) (plain_sight c.enter-mark.new.sight) (plain_sight c.see_first.new.sight) c.args.begin (marks_of c.args.labels.now)
+    (plain_for_first c.args.first.now) c.enter-mark.ensures.inner (search rules) c.requires in
+    (search rules, subst (λ u. IsInBody u c.args.begin (marks_of c.args.labels.now)) (sym c.note_clauses.ensures.same) body)
 
 pub note_for-returns-clause-noted : goal.note_for-returns-clause-noted
 note_for-returns-clause-noted t c = λ at e step.
-    let whole = for_noted (plain_sight c.args.sight.now) (plain_sight c.note_clauses.new.sight) (plain_sight c.enter-mark.new.sight) (plain_sight c.see_first.new.sight) c.args.begin (marks_of c.args.labels.now)
-    (plain_for_first c.args.first.now) c.note_clauses.ensures.same c.enter-mark.ensures.inner (search rules) c.requires at (map plain_annot c.args.annots.now.items) (map plain_annot c.note_clauses.new.annots.items)
+    let whole = for_noted (plain_sight c.args.sight.now) (plain_sight c.enter-mark.new.sight) (plain_sight c.see_first.new.sight) (plain_sight c.note_clauses.new.sight) c.args.begin (marks_of c.args.labels.now)
+    (plain_for_first c.args.first.now) c.enter-mark.ensures.inner (search rules) c.note_clauses.ensures.same c.requires at (map plain_annot c.args.annots.now.items) (map plain_annot c.note_clauses.new.annots.items)
     e step (plain_stmt c.args.a.now) (plain_stmt c.note_statement.new.s) c.note_statement.result (search rules) (search rules) in
     search (rules, whole)
 
 pub note_for-returns-in_err-note_statement-clause-noted : goal.note_for-returns-in_err-note_statement-clause-noted
 note_for-returns-in_err-note_statement-clause-noted t c = λ at e step.
-    let whole = for_noted (plain_sight c.args.sight.now) (plain_sight c.note_clauses.new.sight) (plain_sight c.enter-mark.new.sight) (plain_sight c.see_first.new.sight) c.args.begin (marks_of c.args.labels.now)
-    (plain_for_first c.args.first.now) c.note_clauses.ensures.same c.enter-mark.ensures.inner (search rules) c.requires at (map plain_annot c.args.annots.now.items) (map plain_annot c.note_clauses.new.annots.items)
+    let whole = for_noted (plain_sight c.args.sight.now) (plain_sight c.enter-mark.new.sight) (plain_sight c.see_first.new.sight) (plain_sight c.note_clauses.new.sight) c.args.begin (marks_of c.args.labels.now)
+    (plain_for_first c.args.first.now) c.enter-mark.ensures.inner (search rules) c.note_clauses.ensures.same c.requires at (map plain_annot c.args.annots.now.items) (map plain_annot c.note_clauses.new.annots.items)
     e step (plain_stmt c.args.a.now) (plain_stmt c.note_statement.new.s) c.note_statement.result (search rules) (search rules) in
     search (rules, whole)
 
+pub note_for-returns-in_err-note_clauses-clause-noted : goal.note_for-returns-in_err-note_clauses-clause-noted
+note_for-returns-in_err-note_clauses-clause-noted t c = λ at e step.
+    let f = c.in_err-note_clauses.field-0.0 in
+    let same : c.from_residual-in_err-note_clauses.result ≡ Err f = search rules in
+    rw same (for_refused (plain_sight c.args.sight.now) (plain_sight c.enter-mark.new.sight) (plain_sight c.see_first.new.sight) c.args.begin (marks_of c.args.labels.now)
+    (plain_for_first c.args.first.now) c.enter-mark.ensures.inner (search rules) c.requires at (map plain_annot c.args.annots.now.items) (map plain_annot c.note_clauses.new.annots.items)
+    e step (plain_stmt c.args.a.now) (plain_stmt c.args.a.now) f (search rules))
+
 pub note_for-returns-clause-same : goal.note_for-returns-clause-same
 note_for-returns-clause-same t c =
-    let before = plain_sight c.note_clauses.new.sight in
     let sight : plain_sight c.see_first.new.sight ≡ behind_first (plain_sight c.enter-mark.new.sight) (plain_for_first c.args.first.now) = search rules in
-    for_left before (plain_sight c.enter-mark.new.sight) (plain_sight c.note_statement.new.sight) (plain_sight c.leave.new.sight) c.enter-mark.result.count
+    for_left (plain_sight c.args.sight.now) (plain_sight c.enter-mark.new.sight) (plain_sight c.note_statement.new.sight) (plain_sight c.leave.new.sight) c.enter-mark.result.count
     c.enter-mark.result.innermost c.enter-mark.ensures.inner (ap (λ m. m.count) c.enter-mark.ensures.mark) (ap (λ m. m.innermost) c.enter-mark.ensures.mark) c.leave.ensures
-    c.args.first.now (plain_sight c.see_first.new.sight) c.in_ok-note_statement.ensures.same sight ∙ c.note_clauses.ensures.same
+    c.args.first.now (plain_sight c.see_first.new.sight) (c.in_ok-note_statement.ensures.same ∙ c.note_clauses.ensures.same) sight
 
 pub note_kind-returns-in_ok-note_statement-in-If-clause-noted : goal.note_kind-returns-in_ok-note_statement-in-If-clause-noted
 note_kind-returns-in_ok-note_statement-in-If-clause-noted t c = λ at.

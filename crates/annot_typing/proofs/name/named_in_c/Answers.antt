@@ -7,7 +7,7 @@ use Rattle.c_scopes.specs.Entity.{plain_object}
 use Rattle.c_scopes.specs.Sights.{plain_sight}
 use Rattle.annot_typing.specs.Sights.{plain_clause}
 use Rattle.annot_typing.specs.Sorts.{plain_sorted}
-use Rattle.annot_typing.proofs.name.term_named.Goals as goal
+use Rattle.annot_typing.proofs.name.named_in_c.Goals as goal
 
 pub returns-in-Some-AnObject : goal.returns-in-Some-AnObject
 returns-in-Some-AnObject c =
