@@ -146,17 +146,17 @@ same_between (Some (Mathematical l)) (Some (Mathematical h)) f g n same = same l
 
 pub guarded_reaches : GuardedReaches
 guarded_reaches q NoGuard p r s e n same = same e n refl
-guarded_reaches q (Guarded a bs below b rest) p r s e n same =
-    same_between (term a s e) (term b s e) (λ l h. over q l bs (lowered below h) (guarded q rest p s) e) (λ l h. over q l bs (lowered below h) (guarded q rest r s) e) n
-    (λ l h f g. binders_reach q l bs (lowered below h) (guarded q rest p s) (guarded q rest r s) e n
+guarded_reaches q (Guarded a y ys below b rest) p r s e n same =
+    same_between (term a s e) (term b s e) (λ l h. over q l (y ∷ ys) (lowered below h) (guarded q rest p s) e) (λ l h. over q l (y ∷ ys) (lowered below h) (guarded q rest r s) e) n
+    (λ l h f g. binders_reach q l (y ∷ ys) (lowered below h) (guarded q rest p s) (guarded q rest r s) e n
     (λ d m reached. guarded_reaches q rest p r s d m (λ c j behind. same c j (l, h, d, f, g, reached, behind))))
 
 pub guards_fit : GuardsFit
 guards_fit seen NoGuard p s e d st ft ranged is = record { seen = seen; fits = subst (NamesFit seen s) (sym is) ft; ranged = ranged }
-guards_fit seen (Guarded a bs below b rest) p s e d st ft ranged r =
+guards_fit seen (Guarded a y ys below b rest) p s e d st ft ranged r =
     let l = r.0 in
     let h = r.1 in
     let first : LiesIn (range_of a) l = terms_lie_in_ranges seen a s e (Mathematical l) st ft ranged.0 r.3 in
     let last : LiesIn (range_of b) h = terms_lie_in_ranges seen b s e (Mathematical h) st ft ranged.1 r.4 in
-    guards_fit (seen_binders (range_of a).lo bs (lowered below (range_of b).hi) seen) rest p s r.2 d st
-    (binders_fit seen bs (range_of a).lo l (lowered below h) (lowered below (range_of b).hi) s e r.2 first.above (lowered_up below h (range_of b).hi last.below) ranged.2 ft r.5) ranged.3 r.6
+    guards_fit (seen_binders (range_of a).lo (y ∷ ys) (lowered below (range_of b).hi) seen) rest p s r.2 d st
+    (binders_fit seen (y ∷ ys) (range_of a).lo l (lowered below h) (lowered below (range_of b).hi) s e r.2 first.above (lowered_up below h (range_of b).hi last.below) ranged.2 ft r.5) ranged.3 r.6

@@ -1,5 +1,5 @@
 -- Wherever a run of a program of an accepted text judges an annotation, each object that is in sight there has a block.
-use Rattle.std.proofs.Common.{◌≡◌, ℕ, zero, suc, Bool, true, false, cond, if◌then◌else◌, ◌&&◌, nat_eq, List, [], ◌∷◌, ◌++◌, map, Option, Some, None, slice_get, codes, refl, sym, ap, ◌∙◌, subst, append_assoc}
+use Rattle.std.proofs.Common.{◌≡◌, ℕ, zero, suc, Bool, true, false, cond, if◌then◌else◌, ◌&&◌, nat_eq, List, [], ◌∷◌, ◌++◌, map, Option, Some, None, slice_get, codes, refl, sym, ◌∙◌, subst, append_assoc}
 use Rattle.std.specs.List.{AllByRecursion}
 use Rattle.c_syntax.specs.declared.place.Place.{Place}
 use Rattle.c_syntax.specs.declared.expression.Use.{Use}
@@ -9,7 +9,8 @@ use Rattle.c_syntax.specs.Ctypes.{PlainType}
 use Rattle.c_syntax.specs.Layouts.{Scalar, scalar_of, size_of}
 use Rattle.c_syntax.specs.declared.annotation.Kind.{Kind}
 use Rattle.c_syntax.specs.declared.annotation.Kind.TheVariants as kind
-use Rattle.c_syntax.specs.Logic.{Annotation, ClauseBody, Predicate, Holds}
+use Rattle.c_syntax.specs.Logic as logic
+use Rattle.c_syntax.specs.Logic.{Annotation, ClauseBody, LogicTerm, Raw, Holds, Behaviors}
 use Rattle.c_syntax.specs.Expressions.{Expression, Node, Number, Letter, Text, Variable, Unary, Binary, Both, Either, Choice, Assign, Bump, Call, Cast, SizeOfType}
 use Rattle.c_syntax.specs.Expressions.{SizeOfExpr, Index, Dot, Arrow, Comma, Expressions, NoExpression, Following, type_of}
 use Rattle.c_syntax.specs.Statements.{Initialiser, One, Many, Initialisers, NoInitialiser, Listed, Declaration, Statement, Empty, Eval, Block, If, While, Do}
@@ -22,11 +23,11 @@ use Rattle.c_model.specs.AnnotationTyping.{inside_block, inside_for, with_label,
 use Rattle.c_model.specs.ContractChecks.{Check, is_requires, is_assumes, is_ensures, is_complete, is_disjoint, of_kind, of_behaviors, entry_checks, leave_checks, all_hold, holds_at, checked, entry}
 use Rattle.c_model.specs.ContractTyping.{sight_of_clause}
 use Rattle.c_model.specs.EffectPlaces.{FirstPlaced, StatementPlaced, ElsePlaced, ItemsPlaced, CasesPlaced, DeclareNothing}
-use Rattle.c_model.specs.ExpressionTyping as entity
-use Rattle.c_model.specs.ExpressionTyping.{Object, Sight, Entity, AnObject, entity_named, inner, or_else, with_objects}
-use Rattle.c_model.specs.Formed.{IsAssert, AreAsserts, IsShortClause, number_of}
+use Rattle.c_model.specs.ExpressionTyping.{Object, Sight, Entity, AnObject, inner, with_objects}
+use Rattle.c_model.specs.Formed.{IsAssert, AreAsserts, IsLoopClause, AreLoopClauses, IsShortClause, number_of}
 use Rattle.c_model.specs.FormedContracts.{IsOwnKind, IsBehaviorKind, IsCoverKind, NamesBehaviors, AreClausesOf, BehaviorsFormed, ContractFormed, MaybeFormed, ContractsFormed}
-use Rattle.c_model.specs.JudgedStates.{Judgement, Result, Judges, InCalls, none, names_with, judged_behind, judged_then, judged_check, judged_checks, judged_of, judged_all, judged_entry, judged_ending, judged_assigned}
+use Rattle.c_model.specs.JudgedStates.{Judgement, Result, Judges, InCalls, none, names_with, judged_behind, judged_then, judged_check, judged_checks, judged_invariant, judged_invariants, judged_of, judged_all, judged_entry, judged_ending}
+use Rattle.c_model.specs.JudgedStates.{judged_assigned}
 use Rattle.c_model.specs.JudgedStates.{judged_eval, judged_place, judged_evals, judged_any, judged_one, judged_fill, judged_parts, judged_initialise, judged_initialise_all}
 use Rattle.c_model.specs.JudgedStates.{judged_on, judged_round, judged_turn, judged_turns, judged_do_turns, judged_exec, judged_cases, judged_else, judged_first, judged_items, judged_body}
 use Rattle.c_model.specs.JudgedStates.{judged_result, judged_call, judged_behind_main, judged_main, judged_calls, judged_whole}
@@ -34,17 +35,20 @@ use Rattle.c_model.specs.Meaning.{Tables, Callee, is_zero, is_array, is_of_libra
 use Rattle.c_model.specs.Meaning.{chosen_case, eval_with, items_with, string_in, fill, parts_or_itself, parameters, exec_with, first_with, body_with, returned_by, definition_at, function_named, call_of, tables_of}
 use Rattle.c_model.specs.Meaning.{global_scope, initialise, initialise_all}
 use Rattle.c_model.specs.Memory.{Pointer, Value, full_at_stack_birth, standard_sizes, shifted}
-use Rattle.c_model.specs.Predicates.{check}
+use Rattle.c_model.specs.Predicates.{check, compared, invariant, invariants, value_of, variant, variant_in}
 use Rattle.c_model.specs.ReadTree.{BodyRead, FunctionRead, FunctionsRead}
-use Rattle.c_model.specs.State.{Scope, State, Breaks, Continues, Returns, Leaves, Over, Stuck, Outcome, Normal, Stop, Evaluation, on_outcome, ◌>>◌, done, step, object, as_scalar}
+use Rattle.c_model.specs.State.{Scope, State, Breaks, Continues, Returns, Leaves, Over, Stuck, Outcome, Normal, Stop, Evaluation, on_outcome, ◌>>=◌, ◌>>◌, done, step, object, as_scalar}
 use Rattle.c_model.specs.State.{write_youngest, birth_of, birth, births, alone, frame, mark}
 use Rattle.c_model.specs.StatementTyping.{behind_first}
 use Rattle.c_model.specs.TypedAnnotations.{StatementNoted, CasesNoted, ElseNoted, ItemsNoted, BodyNoted, ClausesTyped, BehaviorsTyped, IsOwn, OfFunction, OfFile, ContractStands, ContractNoted}
-use Rattle.c_model.specs.TypedPredicates.{AnnotationsTyped, ClauseTyped, PredicateTyped}
+use Rattle.c_model.specs.TypedPredicates.{AnnotationsTyped, ClauseTyped}
 use Rattle.c_model.specs.TypedTrees.{WhereAny}
 use Rattle.c_model.specs.UnitTyping.{with_parameters}
-use Rattle.interval_infer.specs.InSight.{IsFound, EntityFound, AreFound, NamesFound, TypedBy, FoundBy, IsInSight, JudgedInSight}
+use Rattle.interval_infer.specs.InSight.{IsFound, AreFound, NamesFound, TypedBy, FoundBy, IsInSight, JudgedInSight}
+pub use Rattle.interval_infer.proofs.JudgedKinds.{names_in_sight, predicate_in_sight}
+use Rattle.interval_infer.proofs.JudgedKinds.{IsClauseKind, clause_found, clause_typed, cover_typed, loop_kind, of_loop, own_kind}
 use Rattle.interval_infer.proofs.ContractScopes.{stays_checked, stays_entry, body_stays, returned_stays}
+use Rattle.interval_infer.proofs.Scopes.{stays_bind, stays_compared, stays_invariant, stays_invariants, stays_value}
 use Rattle.interval_infer.proofs.Scopes.{scope_after, Stays, stays_then, stays_give, stays_step, stays_mark, stays_frame, stays_as_scalar, stays_write_youngest, stays_check, stays_eval, stays_tested}
 use Rattle.interval_infer.proofs.Scopes.{stays_condition, stays_effect, stays_initialise_all, stays_exec, stays_item, stays_items, stays_first, stays_call}
 use Rattle.interval_infer.proofs.Sights.{DeclarationsFound, FunctionSeen, found_with_all, found_parameters, declarations_found-append, entities_found_more, newest_found, function_seen, globals_in_scope}
@@ -114,101 +118,6 @@ in_cond : (S : Scope → Type 0) (b : Bool) (j k : Judges) → In S j → In S k
 in_cond S true j k h g = h
 in_cond S false j k h g = g
 
--- what has a name among those that are found is found
-pub found_named : (x : ℕ) (es : List Entity) (e : Entity) (scope : Scope) → AreFound es scope → entity_named x es ≡ Some e → EntityFound scope e
-found_named x [] e scope h i = absurd cc
-found_named x (d ∷ es) e scope h i = by (found_named x es) (entity_named x es) (entity.has_name x d) refl i
-  where
-    by : ((e : Entity) (scope : Scope) → AreFound es scope → entity_named x es ≡ Some e → EntityFound scope e) → (o : Option Entity) (b : Bool) → entity_named x es ≡ o → or_else o (cond b (Some d) None) ≡ Some e → EntityFound scope e
-    by go (Some f) b eo j = let same : f ≡ e = cc in go e scope h.1 (eo ∙ ap Some same)
-    by go None true eo j = let same : d ≡ e = cc in subst (EntityFound scope) same h.0
-    by go None false eo j = absurd cc
-
-pub names_found : (s : Sight) (scope : Scope) → AreFound s.entities scope → NamesFound s scope
-names_found s scope h x b is = found_named x s.entities (AnObject b) scope h is
-
--- whatever is judged, each object that a name stands for has a block
-names_found_by : (k : Kind) (s : Sight) (scope : Scope) → FoundBy k s scope → NamesFound s scope
-names_found_by kind.Assert s scope h = names_found s scope h
-names_found_by kind.Requires s scope h = h
-names_found_by kind.Assumes s scope h = h
-names_found_by kind.Ensures s scope h = h
-names_found_by kind.Complete s scope h = h
-names_found_by kind.Disjoint s scope h = h
-names_found_by kind.Invariant s scope h = h
-names_found_by kind.Variant s scope h = h
-names_found_by kind.Rte s scope h = h
-
-pub names_in_sight : (j : Judgement) (h : IsInSight j) → NamesFound h.sight.here j.state.scope
-names_in_sight j h = names_found_by j.annotation.kind h.sight.here j.state.scope h.found
-
--- and a predicate is typed
-typed_by : (k : Kind) (s : AnnotationSight) (p : Predicate) → TypedBy k s (Holds p) → PredicateTyped s p
-typed_by kind.Assert s p h = h
-typed_by kind.Requires s p h = h
-typed_by kind.Assumes s p h = h
-typed_by kind.Ensures s p h = h
-typed_by kind.Complete s p h = absurd h
-typed_by kind.Disjoint s p h = absurd h
-typed_by kind.Invariant s p h = h
-typed_by kind.Variant s p h = h
-typed_by kind.Rte s p h = h
-
-pub predicate_in_sight : (j : Judgement) (p : Predicate) (h : IsInSight j) → j.annotation.body ≡ Holds p → PredicateTyped h.sight p
-predicate_in_sight j p h e = typed_by j.annotation.kind h.sight p (subst (TypedBy j.annotation.kind h.sight) e h.typed)
-
--- ---- clauses of contracts, by their kinds
-
-abbrev IsClauseKind : Kind → Type 0
-IsClauseKind kind.Assert = ⊥
-IsClauseKind _ = Unit {0}
-
--- one that says something that is so
-clause_typed : (k : Kind) (s : AnnotationSight) (b : ClauseBody) → IsBehaviorKind k → ClauseTyped s b → TypedBy k s b × IsClauseKind k
-clause_typed kind.Assert s b i h = absurd i
-clause_typed kind.Requires s b i h = (h, tt)
-clause_typed kind.Assumes s b i h = (h, tt)
-clause_typed kind.Ensures s b i h = (h, tt)
-clause_typed kind.Complete s b i h = absurd i
-clause_typed kind.Disjoint s b i h = absurd i
-clause_typed kind.Invariant s b i h = absurd i
-clause_typed kind.Variant s b i h = absurd i
-clause_typed kind.Rte s b i h = absurd i
-
-own_kind : (k : Kind) → IsOwnKind k → IsBehaviorKind k
-own_kind kind.Assert i = absurd i
-own_kind kind.Requires i = tt
-own_kind kind.Assumes i = absurd i
-own_kind kind.Ensures i = tt
-own_kind kind.Complete i = absurd i
-own_kind kind.Disjoint i = absurd i
-own_kind kind.Invariant i = absurd i
-own_kind kind.Variant i = absurd i
-own_kind kind.Rte i = absurd i
-
--- one that names behaviors
-cover_typed : (k : Kind) (s : AnnotationSight) (b : ClauseBody) → IsCoverKind k → NamesBehaviors b → TypedBy k s b × IsClauseKind k
-cover_typed kind.Assert s b i h = absurd i
-cover_typed kind.Requires s b i h = absurd i
-cover_typed kind.Assumes s b i h = absurd i
-cover_typed kind.Ensures s b i h = absurd i
-cover_typed kind.Complete s b i h = (h, tt)
-cover_typed kind.Disjoint s b i h = (h, tt)
-cover_typed kind.Invariant s b i h = absurd i
-cover_typed kind.Variant s b i h = absurd i
-cover_typed kind.Rte s b i h = absurd i
-
-clause_found : (k : Kind) (s : Sight) (scope : Scope) → IsClauseKind k → NamesFound s scope → FoundBy k s scope
-clause_found kind.Assert s scope i h = absurd i
-clause_found kind.Requires s scope i h = h
-clause_found kind.Assumes s scope i h = h
-clause_found kind.Ensures s scope i h = h
-clause_found kind.Complete s scope i h = h
-clause_found kind.Disjoint s scope i h = h
-clause_found kind.Invariant s scope i h = h
-clause_found kind.Variant s scope i h = h
-clause_found kind.Rte s scope i h = h
-
 assert_in_sight : (s : AnnotationSight) (a : Annotation) (t : State) → IsAssert a → ClauseTyped s a.body → AreFound s.here.entities t.scope → IsInSight (record { annotation = a; result = None; state = t })
 assert_in_sight s a t is h q =
     record { sight = s; typed = subst (λ k. TypedBy k s a.body) (sym is.kind) h; found = subst (λ k. FoundBy k s.here t.scope) (sym is.kind) q }
@@ -218,6 +127,32 @@ in_checks s [] are h = in_always (Sees s.here) none always_none
 in_checks s (a ∷ rest) are h =
     in_then (Sees s.here) (judged_check None a) (check a) (λ _. judged_checks rest) (record { at = λ t q. (assert_in_sight s a t are.0 h.0 q, tt) })
     (stays_check [] a) (λ _. in_checks s rest are.1 h.1)
+
+-- ---- clauses of loops
+
+in_clause : (s : AnnotationSight) (a : Annotation) → IsLoopClause a → ClauseTyped s a.body → In (Sees s.here) (judged_check None a)
+in_clause s a is h = record { at = λ t q. let o = of_loop a.kind s a.body t.scope (loop_kind a.body a.kind is.kind) h q in (record { sight = s; typed = o.0; found = o.1 }, tt) }
+
+in_invariants : (s : AnnotationSight) (annots : List Annotation) → AreLoopClauses annots → AnnotationsTyped s annots → In (Sees s.here) (judged_invariants annots)
+in_invariants s [] are h = in_always (Sees s.here) none always_none
+in_invariants s (a ∷ rest) are h =
+    in_then (Sees s.here) (judged_invariant a a.body) (invariant a a.body) (λ _. judged_invariants rest) (by a.body) (stays_invariant a a.body) (λ _. in_invariants s rest are.1 h.1)
+  where
+    by : (c : ClauseBody) → In (Sees s.here) (judged_invariant a c)
+    by (Raw f) = in_clause s a are.0 h.0
+    by (Holds p) = in_clause s a are.0 h.0
+    by (logic.Value t) = in_always (Sees s.here) none always_none
+    by (Behaviors names) = in_clause s a are.0 h.0
+
+in_variant : (s : AnnotationSight) (annots : List Annotation) (v : Annotation × LogicTerm) → variant annots ≡ Some v → AreLoopClauses annots → AnnotationsTyped s annots → In (Sees s.here) (judged_check None v.0)
+in_variant s [] v e are h = absurd cc
+in_variant s (a ∷ rest) v e are h = by (λ f. in_variant s rest v f are.1 h.1) a.body e
+  where
+    by : (variant rest ≡ Some v → In (Sees s.here) (judged_check None v.0)) → (c : ClauseBody) → variant_in a c (variant rest) ≡ Some v → In (Sees s.here) (judged_check None v.0)
+    by others (Raw f) e = others e
+    by others (Holds p) e = others e
+    by others (logic.Value t) e = let same : (a, t) ≡ v = cc in subst (λ (v : Annotation × LogicTerm). In (Sees s.here) (judged_check None v.0)) same (in_clause s a are.0 h.0)
+    by others (Behaviors names) e = others e
 
 -- ---- loops
 
@@ -232,10 +167,15 @@ in_on S s (Stop Stuck t) again q e k = tt
 in_round : (S : Scope → Type 0) (j : Judges) (body : Evaluation (Unit {0})) (again : Judges) → In S j → Stays body → In S again → In S (judged_round j body again)
 in_round S j body again h g k = record { at = λ s q. both_in_sight (j s) (judged_on (body s) again) (h.at s q) (in_on S s (body s) again q (g.at s) k) }
 
--- without a variant
-in_turn : (S : Scope → Type 0) (j : Judges) (body : Evaluation (Unit {0})) (i : Judges) (behind : Evaluation (Unit {0})) (again : Judges)
-    → In S j → Stays body → In S i → Stays behind → In S again → In S (judged_turn j body i behind None again)
-in_turn S j body i behind again h g f e k = in_round S j body (judged_then i behind (λ _. again)) h g (in_then S i behind (λ _. again) f e (λ _. k))
+-- a variant is judged before the body and behind it
+in_turn : (S : Scope → Type 0) (v : Option (Annotation × LogicTerm)) (j : Judges) (body : Evaluation (Unit {0})) (i : Judges) (behind : Evaluation (Unit {0})) (again : Judges)
+    → ((x : Annotation × LogicTerm) → v ≡ Some x → In S (judged_check None x.0)) → In S j → Stays body → In S i → Stays behind → In S again → In S (judged_turn j body i behind v again)
+in_turn S None j body i behind again asked h g f e k = in_round S j body (judged_then i behind (λ _. again)) h g (in_then S i behind (λ _. again) f e (λ _. k))
+in_turn S (Some x) j body i behind again asked h g f e k =
+    in_then S (judged_check None x.0) (value_of x.0 x.1) _ (asked x refl) (stays_value x.0 x.1) (λ old.
+    in_round S j body _ h g (in_then S i behind _ f e (λ _.
+    in_then S (judged_check None x.0) (value_of x.0 x.1 >>= compared x.0 old) (λ _. again) (asked x refl)
+    (stays_bind (value_of x.0 x.1) (compared x.0 old) (stays_value x.0 x.1) (λ new. stays_compared x.0 old new)) (λ _. k))))
 
 in_turns : (S : Scope → Type 0) (n : ℕ) (j : Judges) (test : Evaluation Value) (turn : Judges → Judges) → In S j → Stays test → ((again : Judges) → In S again → In S (turn again))
     → In S (judged_turns n j test turn)
@@ -442,28 +382,30 @@ module _ (T : Tables) (call : Callee) (stays : (at : Place) (f : Use) (vs : List
   case_here s (Then i rest) = case_here (labels_behind s i) rest ∙ item_here s i
 
   mutual
-    in_exec : (s : AnnotationSight) (a : Statement) → StatementPlaced AreAsserts a → StatementNoted s a → (n : ℕ) → In (Sees s.here) (judged_exec T call calls a n)
+    in_exec : (s : AnnotationSight) (a : Statement) → StatementPlaced AreAsserts AreLoopClauses a → StatementNoted s a → (n : ℕ) → In (Sees s.here) (judged_exec T call calls a n)
     in_exec s (Empty at) h q n = in_always (Sees s.here) none always_none
     in_exec s (Eval at e) h q n = in_always (Sees s.here) _ (always_eval e)
     in_exec s (Block at items) h q n = in_born s.here (declared_in items) _ (in_items (inside_block s) items h q n)
     in_exec s (If at e a b) h q n =
         in_then (Sees s.here) _ (condition_of T e call) _ (in_always (Sees s.here) _ (always_eval e)) (stays_test e) (λ v. in_cond (Sees s.here) (is_zero v) _ _ (in_else s b h.1 q.1 n) (in_exec s a h.0 q.0 n))
     in_exec s (While at annots e a) h q n =
-        subst (λ l. In (Sees s.here) (judged_exec T call calls (While at l e a) n)) (sym h.0)
-        (in_turns (Sees s.here) n _ (done >> condition_of T e call) _ (in_then (Sees s.here) none done _ (in_always (Sees s.here) none always_none) (stays_give tt) (λ _. in_always (Sees s.here) _ (always_eval e)))
-        (stays_then done (condition_of T e call) (stays_give tt) (stays_test e))
-        (λ again k. in_turn (Sees s.here) _ (exec_with T a call n) none done again (in_exec s a h.1 q.1 n) (stays_exec T call stays a n) (in_always (Sees s.here) none always_none) (stays_give tt) k))
+        in_turns (Sees s.here) n _ (invariants annots >> condition_of T e call) _
+        (in_then (Sees s.here) (judged_invariants annots) (invariants annots) _ (in_invariants s annots h.0 q.0) (stays_invariants annots) (λ _. in_always (Sees s.here) _ (always_eval e)))
+        (stays_then (invariants annots) (condition_of T e call) (stays_invariants annots) (stays_test e))
+        (λ again k. in_turn (Sees s.here) (variant annots) _ (exec_with T a call n) none done again (λ v e. in_variant s annots v e h.0 q.0) (in_exec s a h.1 q.1 n) (stays_exec T call stays a n)
+        (in_always (Sees s.here) none always_none) (stays_give tt) k)
     in_exec s (Do at a e) h q n =
         in_do_turns (Sees s.here) n _ (condition_of T e call) _ (exec_with T a call n) (in_always (Sees s.here) _ (always_eval e)) (stays_test e) (in_exec s a h q n) (stays_exec T call stays a n)
     in_exec s (For at annots first e behind a) h q n =
-        let S = Sees (inside_for s first).here in
-        subst (λ l. In (Sees s.here) (judged_exec T call calls (For at l first e behind a) n)) (sym h.0)
-        (in_born s.here (declared_first first) _ (in_then (SeesWith s.here (declared_first first)) _ (first_with T first call n) _ (in_always (SeesWith s.here (declared_first first)) _ (always_first first n h.1))
+        let inside = inside_for s first in
+        let S = Sees inside.here in
+        in_born s.here (declared_first first) _ (in_then (SeesWith s.here (declared_first first)) _ (first_with T first call n) _ (in_always (SeesWith s.here (declared_first first)) _ (always_first first n h.1))
         (stays_first T call stays first n) (λ _. in_wider (SeesWith s.here (declared_first first)) S _ (sees_first s.here first)
-        (in_turns S n _ (done >> condition_with T e call) _ (in_then S none done _ (in_always S none always_none) (stays_give tt) (λ _. in_always S _ (always_any e)))
-        (stays_then done (condition_with T e call) (stays_give tt) (stays_condition T call stays e))
-        (λ again k. in_turn S _ (exec_with T a call n) _ (effect_with T behind call) again (in_exec (inside_for s first) a h.2 q.1 n) (stays_exec T call stays a n)
-        (in_always S _ (always_any behind)) (stays_effect T call stays behind) k)))))
+        (in_turns S n _ (invariants annots >> condition_with T e call) _
+        (in_then S (judged_invariants annots) (invariants annots) _ (in_invariants inside annots h.0 q.0) (stays_invariants annots) (λ _. in_always S _ (always_any e)))
+        (stays_then (invariants annots) (condition_with T e call) (stays_invariants annots) (stays_condition T call stays e))
+        (λ again k. in_turn S (variant annots) _ (exec_with T a call n) _ (effect_with T behind call) again (λ v e. in_variant inside annots v e h.0 q.0) (in_exec inside a h.2 q.1 n) (stays_exec T call stays a n)
+        (in_always S _ (always_any behind)) (stays_effect T call stays behind) k))))
     in_exec s (Break at) h q n = in_always (Sees s.here) none always_none
     in_exec s (Continue at) h q n = in_always (Sees s.here) none always_none
     in_exec s (Return at e) h q n = in_always (Sees s.here) _ (always_any e)
@@ -473,19 +415,19 @@ module _ (T : Tables) (call : Callee) (stays : (at : Place) (f : Use) (vs : List
         in_then (Sees s.here) _ (eval_with T e call) _ (in_always (Sees s.here) _ (always_eval e)) (stays_eval T call stays e) (λ v. in_cases s cases h q n (chosen_case v cases))
 
     -- nothing is declared directly among the items of a case
-    in_cases : (s : AnnotationSight) (cases : Cases) → CasesPlaced AreAsserts cases → CasesNoted s cases → (n k : ℕ) → In (Sees s.here) (judged_cases T call calls cases n k)
+    in_cases : (s : AnnotationSight) (cases : Cases) → CasesPlaced AreAsserts AreLoopClauses cases → CasesNoted s cases → (n k : ℕ) → In (Sees s.here) (judged_cases T call calls cases n k)
     in_cases s NoCase h q n k = in_always (Sees s.here) none always_none
     in_cases s (AnotherCase at v items rest) h q n zero =
         in_then (Sees s.here) _ (items_with T items call n) _ (in_wider (Sees s.here) (SeesWith s.here (declared_in items)) _ (λ scope r. (r, none_declared items scope h.0)) (in_items s items h.1 q.0 n))
         (stays_items T call stays items n) (λ _. subst (λ u. In (Sees u) (judged_cases T call calls rest n zero)) (case_here s items) (in_cases (behind_case s items) rest h.2 q.1 n zero))
     in_cases s (AnotherCase at v items rest) h q n (suc k) = subst (λ u. In (Sees u) (judged_cases T call calls rest n k)) (case_here s items) (in_cases (behind_case s items) rest h.2 q.1 n k)
 
-    in_else : (s : AnnotationSight) (b : ElsePart) → ElsePlaced AreAsserts b → ElseNoted s b → (n : ℕ) → In (Sees s.here) (judged_else T call calls b n)
+    in_else : (s : AnnotationSight) (b : ElsePart) → ElsePlaced AreAsserts AreLoopClauses b → ElseNoted s b → (n : ℕ) → In (Sees s.here) (judged_else T call calls b n)
     in_else s NoElse h q n = in_always (Sees s.here) none always_none
     in_else s (Else a) h q n = in_exec s a h q n
 
     -- all that is declared directly among them has blocks
-    in_items : (s : AnnotationSight) (items : BlockItems) → ItemsPlaced AreAsserts items → ItemsNoted s items → (n : ℕ) → In (SeesWith s.here (declared_in items)) (judged_items T call calls items n)
+    in_items : (s : AnnotationSight) (items : BlockItems) → ItemsPlaced AreAsserts AreLoopClauses items → ItemsNoted s items → (n : ℕ) → In (SeesWith s.here (declared_in items)) (judged_items T call calls items n)
     in_items s NoItem h q n = in_always (SeesWith s.here []) none always_none
     in_items s (Then (Declare ds) rest) h q n =
         let S = SeesWith s.here (ds ++ declared_in rest) in
@@ -503,7 +445,7 @@ module _ (T : Tables) (call : Callee) (stays : (at : Place) (f : Use) (vs : List
         in_then S _ _ _ (in_wider S (Sees s.here) _ (λ scope r. r.0) (in_checks s annots h.0 q.0)) (stays_item T call stays (Asserts annots) n) (λ _. in_items (behind_noted s (Asserts annots)) rest h.1 q.1 n)
 
   -- a body is a block, whose scope is that of the parameters
-  in_body : (s : AnnotationSight) (body : Option Statement) → BodyRead AreAsserts body → BodyNoted s body → (n : ℕ) → In (Sees s.here) (judged_body T call calls body n)
+  in_body : (s : AnnotationSight) (body : Option Statement) → BodyRead AreAsserts AreLoopClauses body → BodyNoted s body → (n : ℕ) → In (Sees s.here) (judged_body T call calls body n)
   in_body s None h q n = in_always (Sees s.here) none always_none
   in_body s (Some (Block at items)) h q n = in_born s.here (declared_in items) _ (in_items s items h.0 q n)
   in_body s (Some _) h q n = absurd h
@@ -529,11 +471,11 @@ found_apart (e ∷ a) b scope h = let rest = found_apart a b scope h.1 in ((h.0,
 
 record Known (p : TranslationUnit) (f : Function) : Type 0 where
   seen : FunctionSeen p f
-  read : FunctionRead AreAsserts f
+  read : FunctionRead AreAsserts AreLoopClauses f
   contract : ContractNoted p f
   formed : MaybeFormed IsShortClause f.contract
 
-all_known : (p : TranslationUnit) → IsProgram p → (front fs : List Function) → front ++ fs ≡ p.funcs → FunctionsRead AreAsserts fs → AllByRecursion (ContractNoted p) fs → ContractsFormed IsShortClause fs
+all_known : (p : TranslationUnit) → IsProgram p → (front fs : List Function) → front ++ fs ≡ p.funcs → FunctionsRead AreAsserts AreLoopClauses fs → AllByRecursion (ContractNoted p) fs → ContractsFormed IsShortClause fs
     → AllByRecursion (Known p) fs
 all_known p q front [] is h c g = tt
 all_known p q front (f ∷ fs) is h c g =
@@ -619,7 +561,7 @@ module _ (p : TranslationUnit) (f : Function) (c : FunctionContract) (stands : C
     seen_clauses : (is : Kind → Bool) (b : Option ℕ) (annots : List Annotation) → AreClausesOf IsKind IsShortClause annots → ClausesTyped own_sight annots → AllByRecursion IsSeen (of_kind is b annots)
     seen_clauses is b [] g h = tt
     seen_clauses is b (a ∷ rest) g h =
-        some_of (is a.kind) (record { annotation = a; behavior = b }) (of_kind is b rest) (clause_typed a.kind (own_sight a.kind) a.body (among a.kind g.0.kind) h.0) (seen_clauses is b rest g.1 h.1)
+        some_of (is a.kind) (record { annotation = a; behavior = b }) (of_kind is b rest) (clause_typed a.kind (own_sight a.kind) a.body (among a.kind g.0.kind) h.0) (seen_clauses is b rest g.1 h.2)
 
   seen_own : (is : Kind → Bool) (annots : List Annotation) → AreClausesOf IsOwnKind IsShortClause annots → ClausesTyped own_sight annots → AllByRecursion IsSeen (of_kind is None annots)
   seen_own is annots g h = seen_clauses IsOwnKind own_kind is None annots g h

@@ -3,6 +3,7 @@ pub mod Terms
 pub mod Binders
 pub mod Bases
 mod SeenNames
+pub mod Tried
 mod Ranged
 mod Rows
 mod FunctionRows
@@ -14,4 +15,5 @@ pub mod Judged
 pub mod Scopes
 mod ContractScopes
 pub mod Sights
+pub mod JudgedKinds
 pub mod InSight

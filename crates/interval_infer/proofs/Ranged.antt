@@ -1,5 +1,5 @@
 -- A form whose parts have their ranges has its own, or is refused.
-use Rattle.std.proofs.Common.{◌≡◌, ℕ, Bool, true, false, refl, sym, ap, ◌∙◌, subst, Option, Some, None, Result, Ok, Err, IfOk, option_map}
+use Rattle.std.proofs.Common.{◌≡◌, ℕ, Bool, true, false, List, ◌∷◌, refl, sym, ap, ◌∙◌, subst, Option, Some, None, Result, Ok, Err, IfOk, option_map, OnOk, ◌&&◌}
 use Rattle.c_syntax.specs.declared.place.Place.{Place}
 use Rattle.c_syntax.specs.declared.annotation.Range.{Range}
 use Rattle.c_syntax.specs.declared.annotation.Relation.{Relation}
@@ -8,10 +8,12 @@ use Rattle.c_syntax.specs.declared.expression.Use.{Use}
 use Rattle.c_syntax.specs.declared.logic.Label.{Label}
 use Rattle.c_syntax.specs.declared.logic.LogicType.{LogicType}
 use Rattle.c_syntax.specs.declared.logic.Connective.{Connective}
+use Rattle.c_syntax.specs.declared.logic.Guards as code_guards
 use Rattle.c_syntax.specs.declared.logic.Links as code_links
 use Rattle.c_syntax.specs.declared.logic.Pred.{Pred}
 use Rattle.c_syntax.specs.declared.logic.PredKind.{PredKind}
 use Rattle.c_syntax.specs.declared.logic.PredKind as pred
+use Rattle.c_syntax.specs.declared.logic.Quantifier.{Quantifier}
 use Rattle.c_syntax.specs.declared.logic.Term.{Term}
 use Rattle.c_syntax.specs.declared.logic.TermKind.{TermKind}
 use Rattle.c_syntax.specs.declared.logic.TermKind as term
@@ -21,11 +23,11 @@ use Rattle.c_syntax.specs.declared.logic.ZoneKind as zone
 use Rattle.c_syntax.specs.declared.logic.Zones as code_zones
 use Rattle.c_syntax.specs.Ctypes.{PlainType, plain_type}
 use Rattle.c_syntax.specs.Formulas.{plain_cast_type}
-use Rattle.c_syntax.specs.Logic.{LogicTerm, Variable, Unary, Cast, Choice, Named, At, Linked, Predicate, Chain, Connected, Branch}
+use Rattle.c_syntax.specs.Logic.{LogicTerm, Variable, Unary, Cast, Choice, Named, At, Linked, Predicate, Chain, Connected, Branch, Quantified, Binder, Guards, Guarded}
 use Rattle.c_syntax.specs.Logic.{Deref, Member, Address, Zone, Elements, Another}
-use Rattle.c_syntax.specs.Logic.{range_of, plain_term_kind, plain_term, plain_links, plain_pred_kind, plain_pred, plain_zone_kind, plain_zones}
+use Rattle.c_syntax.specs.Logic.{range_of, plain_term_kind, plain_term, plain_links, plain_pred_kind, plain_pred, plain_guards, plain_zone_kind, plain_zones}
 use Rattle.c_model.specs.Checked.{Checked, Good, Bad, one_part, both_parts, pair_of, given, where_so, refusing}
-use Rattle.c_model.specs.TermRanges.{Seen, place_range, range_seen, unary_range, cast_range, hull, no_range, ranged_term, ranged_links, ranged_pred, ranged_zone}
+use Rattle.c_model.specs.TermRanges.{Seen, place_range, range_seen, unary_range, cast_range, hull, no_range, ranged_term, ranged_links, ranged_pred, ranged_guards, ranged_zone, are_bounded, seen_binders, lowered}
 use Rattle.c_model.specs.TermRanges.{ranged_zones, TermRanged, address_range, held_range, member_range, has_extent}
 use Rattle.c_model.specs.Ranges.{IsRange}
 use Rattle.c_model.proofs.RangedTrees.{ranging_keeps_terms}
@@ -36,6 +38,7 @@ use Rattle.c_scopes.proofs.Least.{both_answers, both_made, both_refused, one_ref
 use Rattle.interval_infer.specs.Laws.{AreSeen}
 use Rattle.interval_infer.specs.Answers as answer
 use Rattle.interval_infer.specs.Answers.{or_no_range, plain_zone}
+use Rattle.interval_infer.specs.Seen.{GuardsAnswer, seen_guards}
 use Rattle.interval_infer.proofs.Sound.{ranges_are_ordered}
 
 -- the range of a tree's plain form is that of the tree
@@ -265,6 +268,97 @@ module _ (seen : Seen)
             (both_made (λ c (ab : Predicate × Predicate). Branch at c ab.0 ab.1) (λ (u : Unit {0}). plain_pred c') (λ (u : Unit {0}). (plain_pred a', plain_pred b')) (ranged_pred seen (plain_pred c))
             (pair_of (ranged_pred seen (plain_pred a)) (ranged_pred seen (plain_pred b))) p w z hc
             (both_answers (λ (u : Unit {0}). plain_pred a') (λ (u : Unit {0}). plain_pred b') (ranged_pred seen (plain_pred a)) (ranged_pred seen (plain_pred b)) q v w ha hb (sym g)) (sym j))
+
+    -- ---- quantifiers in their places
+
+    -- what stands behind a quantifier's chains
+    pub quantified_in_place : (at : Place) (k : PredKind) (z : Result (Unit {0}) TypeFault) (q : Quantifier) (gs gs' : code_guards.Guards) (p p' : Pred) → k ≡ pred.Quantified q gs p
+        → GuardsAnswer seen at (plain_guards gs) (plain_guards gs') (Ok tt)
+        → Answers (λ (u : Unit {0}). plain_pred p') (ranged_pred (seen_guards (plain_guards gs') seen) (plain_pred p)) z
+        → Answers (λ (u : Unit {0}). Quantified at q (plain_guards gs') (plain_pred p')) (ranged_pred seen (plain_pred_kind at k)) z
+    quantified_in_place at k z q gs gs' p p' is hg hp =
+        at_pred_kind at k z (pred.Quantified q gs p) (Quantified at q (plain_guards gs') (plain_pred p')) is
+        (subst (λ c. Answers (λ (u : Unit {0}). Quantified at q (plain_guards gs') (plain_pred p')) (one_part c as_form) z) (sym (hg (λ m. ranged_pred m (plain_pred p)))) (by z hp))
+      where
+        as_form : Guards × Predicate → Checked Predicate
+        as_form gp = Good (Quantified at q gp.0 gp.1)
+
+        beside : Predicate → Checked (Guards × Predicate)
+        beside x = Good (plain_guards gs', x)
+
+        by : (z : Result (Unit {0}) TypeFault) → Answers (λ (u : Unit {0}). plain_pred p') (ranged_pred (seen_guards (plain_guards gs') seen) (plain_pred p)) z
+            → Answers (λ (u : Unit {0}). Quantified at q (plain_guards gs') (plain_pred p')) (one_part (one_part (ranged_pred (seen_guards (plain_guards gs') seen) (plain_pred p)) beside) as_form) z
+        by (Ok u) h = ap (λ c. one_part (one_part c beside) as_form) h
+        by (Err f) h =
+            let m = ranged_pred (seen_guards (plain_guards gs') seen) (plain_pred p) in
+            one_refused as_form (λ (u : Unit {0}). (plain_guards gs', plain_pred p')) (λ (u : Unit {0}). Quantified at q (plain_guards gs') (plain_pred p')) (one_part m beside) f
+            (one_refused beside (λ (u : Unit {0}). plain_pred p') (λ (u : Unit {0}). (plain_guards gs', plain_pred p')) m f h)
+
+    -- a quantifier whose chains are refused
+    pub quantified_refused : (at : Place) (k : PredKind) (f : TypeFault) (q : Quantifier) (gs gs' : code_guards.Guards) (p p' : Pred) → k ≡ pred.Quantified q gs p → GuardsAnswer seen at (plain_guards gs) (plain_guards gs') (Err f)
+        → Answers (λ (u : Unit {0}). Quantified at q (plain_guards gs') (plain_pred p')) (ranged_pred seen (plain_pred_kind at k)) (Err f)
+    quantified_refused at k f q gs gs' p p' is hg =
+        at_pred_kind at k (Err f) (pred.Quantified q gs p) (Quantified at q (plain_guards gs') (plain_pred p')) is
+        (one_refused (λ (gp : Guards × Predicate). Good (Quantified at q gp.0 gp.1)) (λ (u : Unit {0}). (plain_guards gs', plain_pred p')) (λ (u : Unit {0}). Quantified at q (plain_guards gs') (plain_pred p'))
+        (ranged_guards seen at (plain_guards gs) (λ m. ranged_pred m (plain_pred p))) f (hg (λ m. ranged_pred m (plain_pred p)) (plain_pred p')))
+
+    -- binders of one chain and of others, whose ranges are within 128 bits
+    pub bounded_more : (z : Result (Unit {0}) TypeFault) (b x : Bool) → b ≡ true → OnOk z (x ≡ true) → OnOk z (b && x ≡ true)
+    bounded_more (Ok u) b x e h = ap (λ c. c && x) e ∙ h
+    bounded_more (Err f) b x e h = tt
+
+    -- one chain and those within it
+    module _ (at : Place) (a b : LogicTerm) (y : Binder) (ys : List Binder) (below : Bool) (rest : Guards)
+      where
+        abbrev more_seen : LogicTerm → LogicTerm → Seen
+        more_seen a b = seen_binders (range_of a).lo (y ∷ ys) (lowered below (range_of b).hi) seen
+
+        abbrev chained : (Seen → Checked Predicate) → LogicTerm → LogicTerm → Bool → Checked (Guards × Predicate)
+        chained within a b t = where_so t (no_range at) (one_part (ranged_guards (more_seen a b) at rest within) (λ gp. Good (Guarded a y ys below b gp.0, gp.1)))
+
+        abbrev both_bounds : Checked (LogicTerm × LogicTerm)
+        both_bounds = pair_of (ranged_term seen a) (ranged_term seen b)
+
+        is_chained : (a' b' : LogicTerm) (t : Bool) (within : Seen → Checked Predicate) → both_bounds ≡ Good (a', b') → are_bounded (range_of a').lo (y ∷ ys) (lowered below (range_of b').hi) ≡ t
+            → ranged_guards seen at (Guarded a y ys below b rest) within ≡ chained within a' b' t
+        is_chained a' b' t within e is =
+            pair_then (λ x z. chained within x z (are_bounded (range_of x).lo (y ∷ ys) (lowered below (range_of z).hi))) (ranged_term seen a) (ranged_term seen b)
+            ∙ ap (λ c. one_part c (λ (xz : LogicTerm × LogicTerm). chained within xz.0 xz.1 (are_bounded (range_of xz.0).lo (y ∷ ys) (lowered below (range_of xz.1).hi)))) e
+            ∙ ap (chained within a' b') is
+
+        abbrev with_rest : Guards → Predicate → Checked (Guards × Predicate)
+        with_rest rest' p = Good (rest', p)
+
+        abbrev with_chain : LogicTerm → LogicTerm → Guards × Predicate → Checked (Guards × Predicate)
+        with_chain a' b' gp = Good (Guarded a' y ys below b' gp.0, gp.1)
+
+        twice : (a' b' : LogicTerm) (rest' : Guards) (c : Checked Predicate)
+            → one_part (one_part c (with_rest rest')) (with_chain a' b') ≡ one_part c (with_rest (Guarded a' y ys below b' rest'))
+        twice a' b' rest' (Good p) = refl
+        twice a' b' rest' (Bad f fs) = refl
+
+        pub guard_in_place : (a' b' : LogicTerm) (rest' : Guards) (z : Result (Unit {0}) TypeFault) → both_bounds ≡ Good (a', b') → are_bounded (range_of a').lo (y ∷ ys) (lowered below (range_of b').hi) ≡ true
+            → GuardsAnswer (more_seen a' b') at rest rest' z → GuardsAnswer seen at (Guarded a y ys below b rest) (Guarded a' y ys below b' rest') z
+        guard_in_place a' b' rest' (Ok u) e is h = λ within.
+            is_chained a' b' true within e is ∙ ap (λ c. one_part c (λ (gp : Guards × Predicate). Good (Guarded a' y ys below b' gp.0, gp.1))) (h within)
+            ∙ twice a' b' rest' (within (seen_guards rest' (more_seen a' b')))
+        guard_in_place a' b' rest' (Err f) e is h = λ within p.
+            let form : Unit {0} → Guards × Predicate = λ u. (Guarded a' y ys below b' rest', p) in
+            subst (λ c. Answers form c (Err f)) (sym (is_chained a' b' true within e is))
+            (one_refused (λ (gp : Guards × Predicate). Good (Guarded a' y ys below b' gp.0, gp.1)) (λ (u : Unit {0}). (rest', p)) form (ranged_guards (more_seen a' b') at rest within) f (h within p))
+
+        -- bounds that are refused, and binders whose ranges are not within 128 bits
+        pub bounds_refused : (a' b' : LogicTerm) (gs' : Guards) (f : TypeFault) → Answers (λ (r : Range × Range). (a', b')) both_bounds (Err f) → GuardsAnswer seen at (Guarded a y ys below b rest) gs' (Err f)
+        bounds_refused a' b' gs' f h = λ within p.
+            let form : Unit {0} → Guards × Predicate = λ u. (gs', p) in
+            let next : LogicTerm → LogicTerm → Checked (Guards × Predicate) = λ x z. chained within x z (are_bounded (range_of x).lo (y ∷ ys) (lowered below (range_of z).hi)) in
+            subst (λ c. Answers form c (Err f)) (sym (pair_then next (ranged_term seen a) (ranged_term seen b)))
+            (one_refused (λ (xz : LogicTerm × LogicTerm). next xz.0 xz.1) (λ (r : Range × Range). (a', b')) form both_bounds f h)
+
+        pub unbounded_refused : (a' b' : LogicTerm) (gs' : Guards) (f : TypeFault) → both_bounds ≡ Good (a', b') → are_bounded (range_of a').lo (y ∷ ys) (lowered below (range_of b').hi) ≡ false → f ≡ answer.no_range at
+            → GuardsAnswer seen at (Guarded a y ys below b rest) gs' (Err f)
+        unbounded_refused a' b' gs' f e is same = λ within p.
+            subst (λ x. Answers (λ (u : Unit {0}). (gs', p)) (ranged_guards seen at (Guarded a y ys below b rest) within) (Err x)) (sym same) (ap refusing (is_chained a' b' false within e is))
 
     -- a relation and those after it
     pub links_in_place : (at : Place) (r : Relation) (a a' : Term) (l l' : code_links.Links) (q v z : Result (Unit {0}) TypeFault) → Is a q a' → Answers (λ (u : Unit {0}). plain_links l') (ranged_links seen (plain_links l)) v → z ≡ both q v

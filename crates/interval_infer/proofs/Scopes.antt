@@ -158,13 +158,13 @@ stays_checks : (annots : List Annotation) → Stays (checks annots)
 stays_checks [] = stays_give tt
 stays_checks (a ∷ rest) = stays_then (check_in [] a) (checks rest) (stays_check [] a) (stays_checks rest)
 
-stays_invariant : (a : Annotation) (b : ClauseBody) → Stays (invariant a b)
+pub stays_invariant : (a : Annotation) (b : ClauseBody) → Stays (invariant a b)
 stays_invariant a (Raw f) = stays_check [] a
 stays_invariant a (Holds p) = stays_check [] a
 stays_invariant a (logic.Value t) = stays_give tt
 stays_invariant a (Behaviors names) = stays_check [] a
 
-stays_invariants : (annots : List Annotation) → Stays (invariants annots)
+pub stays_invariants : (annots : List Annotation) → Stays (invariants annots)
 stays_invariants [] = stays_give tt
 stays_invariants (a ∷ rest) = stays_then (invariant a a.body) (invariants rest) (stays_invariant a a.body) (stays_invariants rest)
 
@@ -173,10 +173,10 @@ valued_stays a None s = refl
 valued_stays a (Some (Addressed x)) s = refl
 valued_stays a (Some (Mathematical z)) s = refl
 
-stays_value : (a : Annotation) (t : LogicTerm) → Stays (value_of a t)
+pub stays_value : (a : Annotation) (t : LogicTerm) → Stays (value_of a t)
 stays_value a t = record { at = λ s. valued_stays a (term t s []) s }
 
-stays_compared : (a : Annotation) (old new : ℤ) → Stays (compared a old new)
+pub stays_compared : (a : Annotation) (old new : ℤ) → Stays (compared a old new)
 stays_compared a old new = record { at = λ s. judged_stays a (Says (is_smaller old new) s.steps) s }
 
 -- ---- loops and `switch`

@@ -133,9 +133,9 @@ BindersFit = (seen : Seen) (bs : List Binder) (lr l h hr : ℤ) (s : State) (e d
 -- the environments in which what stands behind guards is asked
 abbrev pub GuardsReach : Guards → State → Environment → Environment → Type 0
 GuardsReach NoGuard s e d = d ≡ e
-GuardsReach (Guarded a bs below b rest) s e d =
+GuardsReach (Guarded a y ys below b rest) s e d =
     (l : ℤ) × (h : ℤ) × (f : Environment) × (term a s e ≡ Some (Mathematical l)) × (term b s e ≡ Some (Mathematical h))
-    × Reaches l bs (lowered below h) e f × GuardsReach rest s f d
+    × Reaches l (y ∷ ys) (lowered below h) e f × GuardsReach rest s f d
 
 abbrev pub GuardedReaches : Type 0
 GuardedReaches = (q : Quantifier) (gs : Guards) (p r : Environment → ℕ → Answer) (s : State) (e : Environment) (n : ℕ)

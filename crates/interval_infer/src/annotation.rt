@@ -1,33 +1,37 @@
-//! Ranges over whole trees, where `\result` may be in sight, with the range of its type. Faults of all parts are met before one is chosen: the
-//! first of them in the text.
+//! Ranges over whole trees, where `\result` may be in sight, with the range of its type, and binders of quantifiers, with theirs. Faults of all parts
+//! are met before one is chosen: the first of them in the text.
 
-ghost use Rattle.std.specs.Prelude.{◌≡◌, ℕ, IfErr, IfOk, IfSome, OnOk, [], map, option_map};
+ghost use Rattle.std.specs.Prelude.{◌≡◌, ℕ, true, IfErr, IfOk, IfSome, OnOk, [], map, option_map};
 ghost use Rattle.c_syntax.specs.declared.place.Place.{Place};
 ghost use Rattle.c_syntax.specs.declared.annotation.Range.{Range};
 ghost use Rattle.c_syntax.specs.Ctypes.{plain_type};
-ghost use Rattle.c_syntax.specs.Logic.{plain_annot, plain_body, plain_links, plain_pred, plain_pred_kind, plain_term, plain_term_kind};
+ghost use Rattle.c_syntax.specs.Logic.{plain_annot, plain_body, plain_guards, plain_links, plain_pred, plain_pred_kind, plain_term, plain_term_kind};
 ghost use Rattle.c_syntax.specs.Logic.{plain_zone_kind, plain_zones};
 ghost use Rattle.c_model.specs.Checked.{pair_of};
 ghost use Rattle.c_model.specs.Ranges.{IsRange};
 ghost use Rattle.c_model.specs.TermRanges.{address_range, ranged_annotations, ranged_clause, ranged_links, ranged_pred, ranged_term, ranged_zone, ranged_zones};
 ghost use Rattle.c_scopes.specs.Answers.{Answers, IsRefusal};
 ghost use Rattle.interval_infer.specs.Answers.{plain_zone};
-ghost use Rattle.interval_infer.specs.Seen.{plain_seen};
+ghost use Rattle.interval_infer.specs.Seen.{AreBounded, GuardsAnswer, are_guarded, is_guarded, plain_result, plain_seen, seen_guard, seen_guards};
 
+use crate::binder::is_bounded;
 use crate::form::{binary_range, cast_range, hull, no_range, or_no_range, unary_range};
 use crate::pointer::{
     address_range, distance_range, exactly, has_extent, held_range, member_range, moved_range,
     place_range, start_range, told_range,
 };
-use crate::seen::named_range;
+use crate::seen::{Seen, named_range, returned};
 use c_scopes::fault::{TypeFault, both};
-use c_syntax::logic::{Annot, Body, Links, Pred, PredKind, Term, TermKind, Zone, ZoneKind, Zones};
+use c_syntax::logic::{
+    Annot, Body, Guard, Guards, Links, Pred, PredKind, Term, TermKind, Zone, ZoneKind, Zones,
+};
 use c_syntax::{CType, Place, Range};
 
 /// Sets the ranges of a term and of all terms in it.
 #[cycle(ranges)]
-fn range_term(seen: Option<&CType>, t: &mut Term) -> Result<(), TypeFault>
-    ensures ranged { Answers (λ _. plain_term t.new) (ranged_term (plain_seen seen.entry) (plain_term t.old)) result }
+fn range_term(seen: &Seen<'_>, t: &mut Term) -> Result<(), TypeFault>
+    requires bounded { AreBounded seen.now }
+    ensures ranged { Answers (λ _. plain_term t.new) (ranged_term (plain_seen seen.now) (plain_term t.old)) result }
     ensures sure { IfErr result IsRefusal }
     ensures ordered { OnOk result (IsRange t.new.range) }
 {
@@ -38,13 +42,14 @@ fn range_term(seen: Option<&CType>, t: &mut Term) -> Result<(), TypeFault>
 // The range of a term of this form, after those of the terms in it are set.
 #[cycle(ranges)]
 fn range_kind(
-    seen: Option<&CType>,
+    seen: &Seen<'_>,
     at: Place,
     ctype: &Option<CType>,
     kind: &mut TermKind,
 ) -> Result<Range, TypeFault>
+    requires bounded { AreBounded seen.now }
     ensures ranged { (r : Range) → let t = option_map plain_type ctype.now in
-        Answers (plain_term_kind at kind.new t) (ranged_term (plain_seen seen.entry) (plain_term_kind at kind.old t r)) result }
+        Answers (plain_term_kind at kind.new t) (ranged_term (plain_seen seen.now) (plain_term_kind at kind.old t r)) result }
     ensures sure { IfErr result IsRefusal }
 {
     match kind {
@@ -91,8 +96,9 @@ fn range_kind(
 
 /// Sets the ranges of a term and of all terms in it, and gives its own.
 #[cycle(ranges)]
-fn range_one(seen: Option<&CType>, t: &mut Term) -> Result<Range, TypeFault>
-    ensures ranged { Answers (λ _. plain_term t.new) (ranged_term (plain_seen seen.entry) (plain_term t.old)) result }
+fn range_one(seen: &Seen<'_>, t: &mut Term) -> Result<Range, TypeFault>
+    requires bounded { AreBounded seen.now }
+    ensures ranged { Answers (λ _. plain_term t.new) (ranged_term (plain_seen seen.now) (plain_term t.old)) result }
     ensures sure { IfErr result IsRefusal }
     ensures value { IfOk result (λ r. r ≡ t.new.range) }
     ensures ordered { IfOk result IsRange }
@@ -103,8 +109,9 @@ fn range_one(seen: Option<&CType>, t: &mut Term) -> Result<Range, TypeFault>
 
 /// Sets the ranges of a place and of all terms in it, and gives that of its address. A term that is no place has none.
 #[cycle(ranges)]
-fn range_place(seen: Option<&CType>, t: &mut Term) -> Result<Option<Range>, TypeFault>
-    ensures ranged { Answers (λ _. plain_term t.new) (ranged_term (plain_seen seen.entry) (plain_term t.old)) result }
+fn range_place(seen: &Seen<'_>, t: &mut Term) -> Result<Option<Range>, TypeFault>
+    requires bounded { AreBounded seen.now }
+    ensures ranged { Answers (λ _. plain_term t.new) (ranged_term (plain_seen seen.now) (plain_term t.old)) result }
     ensures sure { IfErr result IsRefusal }
     ensures address { IfOk result (λ o. o ≡ address_range (plain_term t.new)) }
     ensures ordered { IfOk result (λ o. IfSome o IsRange) }
@@ -115,9 +122,10 @@ fn range_place(seen: Option<&CType>, t: &mut Term) -> Result<Option<Range>, Type
 
 /// Sets the ranges of two terms and of all terms in them, and gives their own.
 #[cycle(ranges)]
-fn range_two(seen: Option<&CType>, a: &mut Term, b: &mut Term) -> Result<(Range, Range), TypeFault>
+fn range_two(seen: &Seen<'_>, a: &mut Term, b: &mut Term) -> Result<(Range, Range), TypeFault>
+    requires bounded { AreBounded seen.now }
     ensures ranged { Answers (λ _. (plain_term a.new, plain_term b.new))
-        (pair_of (ranged_term (plain_seen seen.entry) (plain_term a.old)) (ranged_term (plain_seen seen.entry) (plain_term b.old))) result }
+        (pair_of (ranged_term (plain_seen seen.now) (plain_term a.old)) (ranged_term (plain_seen seen.now) (plain_term b.old))) result }
     ensures sure { IfErr result IsRefusal }
     ensures left { IfOk result (λ r. r.0 ≡ a.new.range) }
     ensures right { IfOk result (λ r. r.1 ≡ b.new.range) }
@@ -131,8 +139,9 @@ fn range_two(seen: Option<&CType>, a: &mut Term, b: &mut Term) -> Result<(Range,
 
 /// Sets the ranges of the terms in a zone.
 #[cycle(ranges)]
-fn range_zone(seen: Option<&CType>, z: &mut Zone) -> Result<(), TypeFault>
-    ensures ranged { Answers (λ _. plain_zone z.new) (ranged_zone (plain_seen seen.entry) (plain_zone z.old)) result }
+fn range_zone(seen: &Seen<'_>, z: &mut Zone) -> Result<(), TypeFault>
+    requires bounded { AreBounded seen.now }
+    ensures ranged { Answers (λ _. plain_zone z.new) (ranged_zone (plain_seen seen.now) (plain_zone z.old)) result }
     ensures sure { IfErr result IsRefusal }
 {
     range_zone_kind(seen, z.place, z.size, &mut z.kind)
@@ -141,13 +150,14 @@ fn range_zone(seen: Option<&CType>, z: &mut Zone) -> Result<(), TypeFault>
 // Those of a zone of this form, whose elements have a size in bytes.
 #[cycle(ranges)]
 fn range_zone_kind(
-    seen: Option<&CType>,
+    seen: &Seen<'_>,
     at: Place,
     size: u32,
     kind: &mut ZoneKind,
 ) -> Result<(), TypeFault>
+    requires bounded { AreBounded seen.now }
     ensures ranged { (align : ℕ) → Answers (λ _. plain_zone_kind at size align kind.new)
-        (ranged_zone (plain_seen seen.entry) (plain_zone_kind at size align kind.old)) result }
+        (ranged_zone (plain_seen seen.now) (plain_zone_kind at size align kind.old)) result }
     ensures sure { IfErr result IsRefusal }
 {
     match kind {
@@ -169,8 +179,9 @@ fn range_zone_kind(
 
 /// Sets the ranges of the terms in zones.
 #[cycle(ranges)]
-fn range_zones(seen: Option<&CType>, zones: &mut Zones) -> Result<(), TypeFault>
-    ensures ranged { Answers (λ _. plain_zones zones.new) (ranged_zones (plain_seen seen.entry) (plain_zones zones.old)) result }
+fn range_zones(seen: &Seen<'_>, zones: &mut Zones) -> Result<(), TypeFault>
+    requires bounded { AreBounded seen.now }
+    ensures ranged { Answers (λ _. plain_zones zones.new) (ranged_zones (plain_seen seen.now) (plain_zones zones.old)) result }
     ensures sure { IfErr result IsRefusal }
 {
     match zones {
@@ -185,8 +196,9 @@ fn range_zones(seen: Option<&CType>, zones: &mut Zones) -> Result<(), TypeFault>
 
 // Sets the ranges of the relations of a chain.
 #[cycle(ranges)]
-fn range_links(seen: Option<&CType>, links: &mut Links) -> Result<(), TypeFault>
-    ensures ranged { Answers (λ _. plain_links links.new) (ranged_links (plain_seen seen.entry) (plain_links links.old)) result }
+fn range_links(seen: &Seen<'_>, links: &mut Links) -> Result<(), TypeFault>
+    requires bounded { AreBounded seen.now }
+    ensures ranged { Answers (λ _. plain_links links.new) (ranged_links (plain_seen seen.now) (plain_links links.old)) result }
     ensures sure { IfErr result IsRefusal }
 {
     match links {
@@ -201,16 +213,18 @@ fn range_links(seen: Option<&CType>, links: &mut Links) -> Result<(), TypeFault>
 
 /// Sets the ranges of the terms in a predicate.
 #[cycle(ranges)]
-fn range_pred(seen: Option<&CType>, p: &mut Pred) -> Result<(), TypeFault>
-    ensures ranged { Answers (λ _. plain_pred p.new) (ranged_pred (plain_seen seen.entry) (plain_pred p.old)) result }
+fn range_pred(seen: &Seen<'_>, p: &mut Pred) -> Result<(), TypeFault>
+    requires bounded { AreBounded seen.now }
+    ensures ranged { Answers (λ _. plain_pred p.new) (ranged_pred (plain_seen seen.now) (plain_pred p.old)) result }
     ensures sure { IfErr result IsRefusal }
 {
-    range_pred_kind(seen, &mut p.kind)
+    range_pred_kind(seen, p.place, &mut p.kind)
 }
 
 #[cycle(ranges)]
-fn range_pred_kind(seen: Option<&CType>, kind: &mut PredKind) -> Result<(), TypeFault>
-    ensures ranged { (at : Place) → Answers (λ _. plain_pred_kind at kind.new) (ranged_pred (plain_seen seen.entry) (plain_pred_kind at kind.old)) result }
+fn range_pred_kind(seen: &Seen<'_>, at: Place, kind: &mut PredKind) -> Result<(), TypeFault>
+    requires bounded { AreBounded seen.now }
+    ensures ranged { Answers (λ _. plain_pred_kind at kind.new) (ranged_pred (plain_seen seen.now) (plain_pred_kind at kind.old)) result }
     ensures sure { IfErr result IsRefusal }
 {
     match kind {
@@ -234,32 +248,82 @@ fn range_pred_kind(seen: Option<&CType>, kind: &mut PredKind) -> Result<(), Type
             let branches = both(first, second);
             both(condition, branches)
         }
+        PredKind::Quantified(_, guards, p) => {
+            range_guards(seen, at, guards)?;
+            range_within(seen, guards, p)
+        }
         PredKind::Asks(_, z) => range_zone(seen, z),
         PredKind::Separated(zones) => range_zones(seen, zones),
     }
 }
 
-// Sets the ranges of the terms in a clause, where it is a predicate.
-fn range_body(seen: Option<&CType>, body: &mut Body) -> Result<(), TypeFault>
-    ensures ranged { Answers (λ _. plain_body body.new) (ranged_clause (plain_seen seen.entry) (plain_body body.old)) result }
+// Sets the ranges of what stands within chains, whose bounds have theirs.
+#[cycle(ranges)]
+fn range_within(seen: &Seen<'_>, guards: &Guards, p: &mut Pred) -> Result<(), TypeFault>
+    requires bounded { AreBounded seen.now }
+    requires inside { are_guarded (plain_guards guards.now) ≡ true }
+    ensures ranged { Answers (λ _. plain_pred p.new) (ranged_pred (seen_guards (plain_guards guards.now) (plain_seen seen.now)) (plain_pred p.old)) result }
     ensures sure { IfErr result IsRefusal }
 {
+    range_pred(&Seen::Within(&*guards, &*seen), p)
+}
+
+// Sets the ranges of the bounds of the chains after one, whose bounds have theirs.
+#[cycle(ranges)]
+fn range_rest(seen: &Seen<'_>, guard: &Guard, at: Place, rest: &mut Guards) -> Result<(), TypeFault>
+    requires bounded { AreBounded seen.now }
+    requires inside { is_guarded guard.now ≡ true }
+    ensures ranged { GuardsAnswer (seen_guard guard.now (plain_seen seen.now)) at (plain_guards rest.old) (plain_guards rest.new) result }
+    ensures sure { IfErr result IsRefusal }
+    ensures bounded { OnOk result (are_guarded (plain_guards rest.new) ≡ true) }
+{
+    range_guards(&Seen::Behind(&*guard, &*seen), at, rest)
+}
+
+// Sets the ranges of the bounds of chains, each where the binders of those before it are in sight.
+#[cycle(ranges)]
+fn range_guards(seen: &Seen<'_>, at: Place, guards: &mut Guards) -> Result<(), TypeFault>
+    requires bounded { AreBounded seen.now }
+    ensures ranged { GuardsAnswer (plain_seen seen.now) at (plain_guards guards.old) (plain_guards guards.new) result }
+    ensures sure { IfErr result IsRefusal }
+    ensures bounded { OnOk result (are_guarded (plain_guards guards.new) ≡ true) }
+{
+    match guards {
+        Guards::End => Ok(()),
+        Guards::More(guard, rest) => {
+            range_two(seen, &mut guard.lower, &mut guard.upper)?;
+            if is_bounded(guard) {
+                range_rest(seen, guard, at, rest)
+            } else {
+                Err(no_range(at))
+            }
+        }
+    }
+}
+
+// Sets the ranges of the terms in a clause: a predicate, or the value of a variant.
+fn range_body(returns: Option<&CType>, body: &mut Body) -> Result<(), TypeFault>
+    ensures ranged { Answers (λ _. plain_body body.new) (ranged_clause (plain_result returns.entry) (plain_body body.old)) result }
+    ensures sure { IfErr result IsRefusal }
+{
+    let seen = returned(returns);
     match body {
-        Body::Raw(_) => Ok(()),
-        Body::Truth(p) => range_pred(seen, p),
-        Body::Names(_) => Ok(()),
+        Body::Truth(p) => range_pred(&seen, p),
+        Body::Value(t) => range_term(&seen, t),
+        Body::Raw(_) | Body::Names(_) => Ok(()),
     }
 }
 
 /// Sets the ranges of the terms in annotations, where the result of a function of this type is in sight, or gives the first fault.
-pub fn annotation_ranges(seen: Option<&CType>, annots: &mut Vec<Annot>) -> Result<(), TypeFault>
-    ensures ranged { Answers (λ _. map plain_annot annots.new.items) (ranged_annotations (plain_seen seen.entry) (map plain_annot annots.old.items)) result }
+pub fn annotation_ranges(returns: Option<&CType>, annots: &mut Vec<Annot>) -> Result<(), TypeFault>
+    ensures ranged { Answers (λ _. map plain_annot annots.new.items)
+        (ranged_annotations (plain_result returns.entry) (map plain_annot annots.old.items)) result }
     ensures sure { IfErr result IsRefusal }
 {
     let mut done = Ok(());
     for i in 0..annots.len() {
         let annot = &mut annots[i];
-        let clause = range_body(seen, &mut annot.body);
+        let clause = range_body(returns, &mut annot.body);
         done = both(done, clause);
     }
     done

@@ -5,6 +5,7 @@
 #![tactic(auto)]
 
 mod annotation;
+mod binder;
 mod contract;
 mod form;
 pub mod laws;

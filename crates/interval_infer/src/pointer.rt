@@ -8,6 +8,7 @@ ghost use Rattle.c_model.specs.TermRanges.{TermRanged, address_range, begin_rang
 ghost use Rattle.c_model.specs.TermRanges.{member_range, moved_range, offset_range, place_range, scaled_range, span_range, start_range, told_range};
 ghost use Rattle.interval_infer.specs.Seen.{plain_seen};
 
+use crate::seen::Seen;
 use c_syntax::logic::{BlockFact, PointerOp, Term, TermKind};
 use c_syntax::{CType, Range};
 use ea_num::{add, mul, sub, type_range};
@@ -91,8 +92,8 @@ pub fn result_range(ctype: &CType) -> Option<Range>
 }
 
 /// The range of the address of a place whose parts have their ranges. A term that is no place has none.
-pub fn address_range(seen: Option<&CType>, t: &Term) -> Option<Range>
-    requires ranged { TermRanged (plain_seen seen) (plain_term t.now) }
+pub fn address_range(seen: &Seen<'_>, t: &Term) -> Option<Range>
+    requires ranged { TermRanged (plain_seen seen.now) (plain_term t.now) }
     ensures is { result ≡ address_range (plain_term t.now) }
     ensures ordered { IfSome result IsRange }
 {

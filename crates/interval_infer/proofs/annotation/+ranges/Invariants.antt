@@ -1,5 +1,6 @@
 use Rattle.std.proofs.Common.{◌+◌, ◌*◌}
 use Rattle.std.specs.Prelude.{max}
+use Rattle.c_syntax.specs.declared.logic.Guards.{size-Guards}
 use Rattle.c_syntax.specs.declared.logic.Links.{size-Links}
 use Rattle.c_syntax.specs.declared.logic.Pred.{size-Pred}
 use Rattle.c_syntax.specs.declared.logic.PredKind.{size-PredKind}
@@ -42,3 +43,12 @@ decreases-range_pred l = 2 * size-Pred l.p.now
 
 abbrev pub decreases-range_pred_kind : goal.decreases-range_pred_kind
 decreases-range_pred_kind l = 2 * size-PredKind l.kind.now
+
+abbrev pub decreases-range_guards : goal.decreases-range_guards
+decreases-range_guards l = 2 * size-Guards l.guards.now + 1
+
+abbrev pub decreases-range_within : goal.decreases-range_within
+decreases-range_within l = 2 * size-Pred l.p.now + 1
+
+abbrev pub decreases-range_rest : goal.decreases-range_rest
+decreases-range_rest l = 2 * size-Guards l.rest.now + 2

@@ -14,4 +14,4 @@ returns-in-Deref-clause-is t c =
 pub returns-in-Deref-clause-ordered : goal.returns-in-Deref-clause-ordered
 returns-in-Deref-clause-ordered t c =
     let is : c.args.t.now.kind.value ≡ term.Deref c.in-Deref.pointer = search rules in
-    pointed_ordered (plain_seen c.args.seen) (seen_ordered c.args.seen) c.args.t.now.place c.args.t.now.kind.value (option_map plain_type c.args.t.now.ctype) c.args.t.now.range c.in-Deref.pointer is c.requires.ranged
+    pointed_ordered (plain_seen c.args.seen.now) (seen_ordered c.args.seen.now) c.args.t.now.place c.args.t.now.kind.value (option_map plain_type c.args.t.now.ctype) c.args.t.now.range c.in-Deref.pointer is c.requires.ranged
