@@ -1,0 +1,4 @@
+pub mod Values
+pub mod Trying
+pub mod Labels
+pub mod Valid

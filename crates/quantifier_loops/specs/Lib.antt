@@ -1,0 +1,4 @@
+pub mod Upward
+pub mod Tries
+pub mod Laws
+pub mod Plain
