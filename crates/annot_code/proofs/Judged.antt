@@ -15,17 +15,17 @@ use Rattle.annot_code.specs.Judged.{IsValidIn, JudgesIn, judgement_of}
 use Rattle.annot_pieces.specs.Plain.{Known, code_of, judgement_by, known_with, pred_by}
 use Rattle.annot_simulation.specs.Inside.{AreInside}
 use Rattle.annot_simulation.proofs.Inside.{judgement_inside}
-use Rattle.annot_simulation.proofs.Theorem.{code_judges}
+use Rattle.annot_simulation.proofs.Outcomes.{code_judges}
 use Rattle.annot_simulation.proofs.ValidCode.{code_is_valid}
 
 judges_in : (n : Names) (q : Predicate) (k : Known) → JudgesIn n k.plan k.held q (judgement_by n q k)
-judges_in n q k w unit bound plan held stands holds ranged found low few =
+judges_in n q k w unit bound plan held stands holds ranged found enough low few =
     let same : judgement w.unit w.bound w.plan w.held q n.table.kinds ≡ judgement_by n q k = λ i. judgement (unit i) (bound i) (plan i) (held i) q n.table.kinds in
-    subst (λ z. length z.used ≤ length w.regs → Judges w n.table.kinds z (pred q w.now w.names w.target.steps)) same (code_judges w q n.table.kinds stands holds ranged found low) few
+    subst (λ z. length z.used ≤ length w.regs → Judges w n.table.kinds z (pred q w.now w.names w.target.steps)) same (code_judges w q n.table.kinds stands holds ranged found enough low) few
 
 valid_in : (n : Names) (q : Predicate) (k : Known) → IsValidIn n k.plan k.held q (judgement_by n q k)
-valid_in n q k seen globals gs ts result ls ranged writable few begins =
-    code_is_valid (unit_of n) n.table.bound k.plan k.held seen globals gs ts result ls q n.table.kinds ranged writable few begins
+valid_in n q k seen globals gs ts result ls ranged counted typed out writable few begins =
+    code_is_valid (unit_of n) n.table.bound k.plan k.held seen globals gs ts result ls q n.table.kinds ranged counted typed out writable few begins
 
 module _ {E : Type 0} (r : Result code.Judged E) (ks : List MonType) (n : Names) (q : Predicate) (k : Known) where
   pub of_judgement :

@@ -2,6 +2,7 @@ pub mod Passages
 pub mod Checks
 pub mod Pairs
 pub mod Forms
+pub mod GuardForms
 pub mod OneForms
 pub mod ChainForms
 pub mod PointerForms

@@ -172,7 +172,7 @@ fn demand(
 {
     match &annot.body {
         Body::Names(listed) => cover(alloc, annot, listed, counted, flags, names, to),
-        Body::Raw(_) | Body::Truth(_) => {
+        Body::Raw(_) | Body::Truth(_) | Body::Value(_) => {
             assertion(alloc, annot, stored, names, to)?;
             Ok(counted)
         }

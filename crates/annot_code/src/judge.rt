@@ -167,7 +167,7 @@ pub fn judge_clause(
     ensures program { OnOk result (names.new.program ≡ names.old.program) }
 {
     match body {
-        Body::Raw(_) | Body::Names(_) => judge_nothing(alloc, names),
+        Body::Raw(_) | Body::Names(_) | Body::Value(_) => judge_nothing(alloc, names),
         Body::Truth(p) => judge(alloc, p, stored, names),
     }
 }

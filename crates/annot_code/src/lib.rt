@@ -6,4 +6,6 @@ pub mod contract;
 pub mod flags;
 pub mod judge;
 mod predicate;
+mod quantifier;
 pub mod snapshot;
+pub mod value_of;

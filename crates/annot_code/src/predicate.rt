@@ -12,6 +12,7 @@ ghost use Rattle.annot_pieces.specs.Plain.{deref_of, difference_of, elements_for
 ghost use Rattle.annot_pieces.specs.Plain.{place_by, plain_known, plain_zone, pointer_by, pointer_choice_of, pointer_of, pred_by};
 ghost use Rattle.annot_pieces.specs.Plain.{separated_of, side_by_names, side_of, term_by, told_of, unary_of, zone_by, zone_of, zones_by, zones_of};
 
+use crate::quantifier::quantified;
 use annot_pieces::compare::difference_code;
 use annot_pieces::join::{branched, chosen, connected, operated, settled};
 use annot_pieces::leaf::{kept_number, kept_pointer, named, pointer_named, pointer_variable};
@@ -36,7 +37,7 @@ use annot_pieces::zone::{
 use c_effects::object::pointer_to;
 use c_syntax::logic::{
     BlockFact, Connective, Label, Links, LogicType, MemoryQuestion, PointerOp, Pred, PredKind,
-    Term, TermKind, Zone, ZoneKind, Zones,
+    Quantifier, Term, TermKind, Zone, ZoneKind, Zones,
 };
 use c_syntax::{BinOp, CType, Range, Relation, UnOp};
 use ea_num::width_of as width_of_range;
@@ -45,8 +46,9 @@ use std::alloc::{AllocError, Global};
 
 // ---- terms
 
+/// A number.
 #[cycle(code)]
-fn term_code(
+pub fn term_code(
     alloc: Global,
     t: &Term,
     known: &Known<'_>,
@@ -645,6 +647,9 @@ pub fn pred_code(
         PredKind::Choice(c, a, b) => one_of(alloc, c, (a, b), known, names),
         PredKind::Asks(question, z) => asks(alloc, *question, z, known, names),
         PredKind::Separated(zones) => separated(alloc, zones, known, names),
+        PredKind::Quantified(q, guards, inner) => {
+            quantified(alloc, *q, (guards, inner), known, names)
+        }
     }
 }
 

@@ -1,6 +1,5 @@
 -- What is asked about each pair of zones, from the first zone and the others.
-use Rattle.std.proofs.Common.{◌≡◌, ℕ, suc, ◌+◌, ◌-◌, ◌≤◌, ◌<◌, List, [], ◌∷◌, length, take, drop, get_or, sym, ap, ◌∙◌, arith}
-use Rattle.std.proofs.Math.Seq.{take-length}
+use Rattle.std.proofs.Common.{◌≡◌, ℕ, suc, ◌+◌, ◌≤◌, ◌<◌, List, [], ◌∷◌, length, get_or, sym, ap, ◌∙◌, arith}
 use Rattle.mon_syntax.specs.declared.tree.MonOp.TheVariants.{And}
 use Rattle.mon_syntax.specs.declared.tree.MonType.TheVariants.{I32}
 use Rattle.mon_syntax.specs.Trees.{MonExpression, Register, Binary, Set, MonStatement, MonStatements, Then}
@@ -9,16 +8,8 @@ use Rattle.c_effects.proofs.Sequences.{before_assoc, before_none}
 use Rattle.mem_preds.specs.declared.ranges.Bytes.{Bytes}
 use Rattle.annot_simulation.specs.Pointers.{ZoneCode, apart_from_each, each_pair, zones_parted}
 use Rattle.annot_pieces.specs.Plain.{all_bytes, bytes_of}
+use Rattle.annot_pieces.proofs.Others.{others, others_is}
 use Rattle.annot_pieces.proofs.Rust.{next_is, two_more}
-
--- the others
-abbrev others : List Bytes → List Bytes
-others l = take (length l - 1) (drop 1 l)
-
-others_is : (b : Bytes) (rest : List Bytes) → others (b ∷ rest) ≡ rest
-others_is b rest =
-    let count : length (b ∷ rest) - 1 ≡ length rest = omega arith in
-    ap (λ n. take n rest) count ∙ take-length rest
 
 pub apart_none : (l : List Bytes) (n : ℕ) (z : ZoneCode) (a : MonStatements) → length l < 1 → a ≡ before a (apart_from_each n z (all_bytes l))
 apart_none [] n z a none = sym (before_none a)

@@ -1,5 +1,5 @@
 -- Ours: plain forms.
-use Rattle.std.specs.Prelude.{ℕ, suc, pos, Bool, true, false, List, [], ◌++◌, length, map, Option, Some, None, option_map}
+use Rattle.std.specs.Prelude.{ℕ, suc, ℤ, pos, ◌∷◌, Bool, true, false, List, [], ◌++◌, length, map, Option, Some, None, option_map}
 use Rattle.c_syntax.specs.declared.annotation.Range.{Range}
 use Rattle.c_syntax.specs.declared.annotation.Relation.{Relation}
 use Rattle.c_syntax.specs.declared.expression.BinOp.{BinOp}
@@ -7,6 +7,10 @@ use Rattle.c_syntax.specs.declared.expression.UnOp.{UnOp}
 use Rattle.c_syntax.specs.declared.logic.BlockFact.{BlockFact}
 use Rattle.c_syntax.specs.declared.logic.Connective.{Connective}
 use Rattle.c_syntax.specs.declared.logic.Connective.TheVariants as connective
+use Rattle.c_syntax.specs.declared.logic.Guard.{Guard}
+use Rattle.c_syntax.specs.declared.logic.Guards as declared_guards
+use Rattle.c_syntax.specs.declared.logic.Quantifier.{Quantifier}
+use Rattle.c_syntax.specs.declared.types.CInt.{CInt}
 use Rattle.c_syntax.specs.declared.logic.Links as declared_logic
 use Rattle.c_syntax.specs.declared.logic.MemoryQuestion.{MemoryQuestion}
 use Rattle.c_syntax.specs.declared.logic.PointerOp.{PointerOp}
@@ -15,12 +19,14 @@ use Rattle.c_syntax.specs.declared.logic.Term.{Term}
 use Rattle.c_syntax.specs.declared.logic.Zone as declared_logic_zone
 use Rattle.c_syntax.specs.declared.logic.Zones as declared_logic_zones
 use Rattle.c_syntax.specs.Ctypes.{PlainType}
-use Rattle.c_syntax.specs.Formulas.{CastType}
-use Rattle.c_syntax.specs.Logic.{LogicTerm, Links, Linked, Zone, Zones, Another, Predicate, ClauseBody, Annotation}
-use Rattle.c_syntax.specs.Logic.{plain_links, plain_pred, plain_term, plain_zone_kind, plain_zones}
+use Rattle.c_syntax.specs.Formulas.{CastType, Integers, OfC}
+use Rattle.c_syntax.specs.Logic.{LogicTerm, Links, Linked, Zone, Zones, Another, Predicate, ClauseBody, Annotation, Binder, Guards, Guarded, range_of}
+use Rattle.c_syntax.specs.Logic.{plain_binder, plain_guards, plain_links, plain_pred, plain_term, plain_zone_kind, plain_zones}
 use Rattle.c_syntax.specs.Logic as logic
 use Rattle.c_syntax.specs.Programs.{TranslationUnit}
+use Rattle.c_model.specs.Integers.{integer_type}
 use Rattle.c_model.specs.Places.{first_place}
+use Rattle.c_model.specs.TermRanges.{lowered}
 use Rattle.c_model.specs.Ranges.{width_of_range}
 use Rattle.mon_syntax.specs.declared.tree.MonOp.TheVariants.{Add, And, Div, Eq, Or, Sub}
 use Rattle.mon_syntax.specs.declared.tree.MonType.{MonType}
@@ -32,6 +38,8 @@ use Rattle.c_effects.specs.Named.{unit_of}
 use Rattle.mem_preds.specs.declared.question.Question.TheVariants as question
 use Rattle.mem_preds.specs.declared.ranges.Bytes.{Bytes}
 use Rattle.mem_preds.specs.Questions.{read_at}
+use Rattle.annot_pieces.specs.declared.opened.OpenBinder.{OpenBinder}
+use Rattle.annot_pieces.specs.declared.guard.OpenGuard.{OpenGuard}
 use Rattle.annot_pieces.specs.declared.plan.Stored.{Stored}
 use Rattle.annot_pieces.specs.declared.piece.Code as declared
 use Rattle.annot_pieces.specs.declared.pointer.PointerCode as declared_pointer
@@ -47,7 +55,10 @@ use Rattle.annot_simulation.specs.Code.{judged_by, related_code, relation_operat
 use Rattle.annot_simulation.specs.Code.{type_of, type_of_width, width_of, working, term_code, pointer_code, place_code, zone_code, zones_code}
 use Rattle.annot_simulation.specs.Code.{side_code, chain_code, pred_code, judgement, clause_judgement, assertion, assertions, behind_assertion}
 use Rattle.annot_simulation.specs.Code.{behind_assertions}
-use Rattle.annot_simulation.specs.Code.{no_code, no_pointer_code}
+use Rattle.annot_simulation.specs.Code.{no_code, no_pointer_code, Valuation, relation_code, valuation, wider}
+use Rattle.annot_simulation.specs.Binders.{bounds_relation, last_before}
+use Rattle.annot_simulation.specs.Opened.{OpenedBinder, OpenedGuard, Within, held_within, open_binders, open_guards, used_within}
+use Rattle.quantifier_loops.specs.Plain.{plain_bounds}
 use Rattle.annot_simulation.specs.Held.{Held}
 use Rattle.c_simulation.specs.Keeping.{Kept}
 use Rattle.annot_pieces.specs.Tables.{plain_helds, plain_plan}
@@ -251,6 +262,74 @@ chain_by n t x links k = chain_code (unit_of n) n.table.bound k.plan t x links k
 
 abbrev pub pred_by : Names → Predicate → Known → Code
 pred_by n q k = pred_code (unit_of n) n.table.bound k.plan q k.held k.readings n.table.kinds
+
+-- ---- quantifiers
+
+-- a chain of a guard before others
+abbrev pub guarded_of : Guard → declared_guards.Guards → Guards
+guarded_of g rest = Guarded (plain_term g.lower) (plain_binder g.first) (map plain_binder g.others.items) g.below (plain_term g.upper) (plain_guards rest)
+
+abbrev pub quantified_of : Quantifier → declared_guards.Guards → Pred → Predicate
+quantified_of q gs p = logic.Quantified first_place q (plain_guards gs) (plain_pred p)
+
+abbrev pub plain_opened : OpenBinder → OpenedBinder
+plain_opened b = record { bounds = plain_bounds b.bounds; first = b.first; most = b.most }
+
+-- the registers that are taken then are no part of it
+abbrev pub plain_guard_opened : OpenGuard → OpenedGuard
+plain_guard_opened g = record {
+  related = code_of g.related [];
+  kind = g.chain.kind;
+  last = g.chain.last;
+  bound = plain_expr g.bound;
+  binders = map plain_opened g.binders.items;
+}
+
+abbrev pub plain_guards_opened : List OpenGuard → List OpenedGuard
+plain_guards_opened gs = map plain_guard_opened gs
+
+-- a chain whose bounds have their code
+abbrev pub opened_guard : Guard → Code → Code → OpenedGuard
+opened_guard g u v =
+    let a = plain_term g.lower in
+    let b = plain_term g.upper in
+    let k = type_of_width (wider (width_of a) (width_of b)) in
+    let last = length v.used in record {
+      related = record (relation_code (bounds_relation g.below) a b u v) { used = [] };
+      kind = k;
+      last = last;
+      bound = last_before g.below k (in_type (type_of b) k v.value);
+      binders = open_binders k (Register last) (lowered g.below (range_of b).hi) (in_type (type_of a) k u.value) (range_of a).lo
+          (plain_binder g.first ∷ map plain_binder g.others.items) (v.used ++ k ∷ []);
+    }
+
+abbrev pub index_of_guard : Guard → MonType
+index_of_guard g = type_of_width (wider (width_of (plain_term g.lower)) (width_of (plain_term g.upper)))
+
+abbrev pub held_in_guard : Guard → List Held → List MonType → List Held
+held_in_guard g held rs =
+    held_within (index_of_guard g) (Register (length rs)) (lowered g.below (range_of (plain_term g.upper)).hi)
+    (plain_binder g.first ∷ map plain_binder g.others.items)
+    held (rs ++ index_of_guard g ∷ [])
+
+abbrev pub used_in_guard : Guard → List MonType → List MonType
+used_in_guard g rs =
+    used_within (index_of_guard g) (Register (length rs)) (lowered g.below (range_of (plain_term g.upper)).hi)
+    (plain_binder g.first ∷ map plain_binder g.others.items)
+    (rs ++ index_of_guard g ∷ [])
+
+abbrev pub within_guards : Names → Guards → Known → Within
+within_guards n gs k = open_guards (unit_of n) n.table.bound k.plan gs k.held k.readings n.table.kinds
+
+-- the integer type of C that a binder has
+abbrev pub c_type_of : CastType → Option CInt
+c_type_of Integers = None
+c_type_of (OfC t) = integer_type t
+
+-- ---- values of terms
+
+abbrev pub valuation_by : Names → LogicTerm → Known → Valuation
+valuation_by n t k = valuation (unit_of n) n.table.bound k.plan k.held t n.table.kinds
 
 -- ---- forms by their parts; their own places play no part
 

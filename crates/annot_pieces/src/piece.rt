@@ -5,13 +5,14 @@ ghost use Rattle.mon_syntax.specs.declared.tree.MonType.TheVariants.{I32};
 ghost use Rattle.mon_syntax.specs.Registers.{next_register};
 ghost use Rattle.mon_syntax.specs.Trees.{plain_expr, plain_stmt, plain_stmts};
 ghost use Rattle.c_effects.specs.Expressions.{before, one};
-ghost use Rattle.annot_simulation.specs.Code.{branch, conjunction, guarded, take, take_none, taken, two_code};
+ghost use Rattle.annot_simulation.specs.Code.{branch, conjunction, take, take_none, taken, two_code};
 ghost use Rattle.annot_pieces.specs.Plain.{code_of};
 
 use crate::value::conjunction;
 use c_effects::operator::{constant, register};
 use c_effects::part::{alone, then, then_all};
 use mon_syntax::{MonExpr, MonStmt, MonStmtKind, MonType, Registers};
+pub use quantifier_loops::tries::guarded;
 use std::alloc::{AllocError, Global};
 
 /// The code of a term or of a predicate.
@@ -57,24 +58,6 @@ pub fn in_sequence(
     then_all(&mut stmts, more)?;
     let flag = conjunction(alloc, first, second)?;
     Ok((stmts, flag))
-}
-
-/// Puts the first statements where a flag is 1 and the second ones elsewhere.
-#[tactic(auto, using(mon_syntax::proofs::Rows::if_is))]
-pub fn guarded(
-    alloc: Global,
-    flag: Option<MonExpr>,
-    on: Vec<MonStmt>,
-    off: Vec<MonStmt>,
-    to: &mut Vec<MonStmt>,
-) -> Result<(), AllocError>
-    ensures { OnOk result (plain_stmts to.new.items ≡ before (plain_stmts to.old.items)
-        (guarded (option_map plain_expr flag) (plain_stmts on.items) (plain_stmts off.items))) }
-{
-    match flag {
-        None => then_all(to, on),
-        Some(flag) => then(alloc, to, MonStmtKind::If(flag, on, off)),
-    }
 }
 
 // Two statements, of which the second runs where the flag in the first one's register is 1.

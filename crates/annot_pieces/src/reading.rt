@@ -155,7 +155,7 @@ pub fn read_in(p: &Pred, to: &mut Vec<Reading>) -> Result<(), AllocError>
     ensures { OnOk result (plain_readings to.new.items ≡ plain_readings to.old.items ++ sure_readings (plain_pred p.now)) }
 {
     match &*p.kind {
-        PredKind::Truth(_) => Ok(()),
+        PredKind::Truth(_) | PredKind::Quantified(_, _, _) => Ok(()),
         PredKind::NonZero(t) => read_in_term(t, to),
         PredKind::Chain(_, Links::End) => Ok(()),
         PredKind::Chain(t, Links::Link(_, _, u, _)) => read_in_relation(t, u, to),

@@ -113,8 +113,8 @@ pub fn ended(alloc: Global, x: Side) -> Result<Code, AllocError>
     })
 }
 
-// A relation of two numbers.
-fn relation_code(
+/// A relation of two numbers.
+pub fn relation_code(
     alloc: Global,
     relation: Relation,
     t: &Term,

@@ -3,11 +3,12 @@ use Rattle.std.proofs.Common.{◌≡◌, ℕ, pos, Bool, true, false, [], Option
 use Rattle.c_syntax.specs.declared.annotation.Relation.TheVariants.{Ne}
 use Rattle.c_syntax.specs.Logic.{LogicTerm, Number, Letter, Variable, Unary, Binary, Cast, Choice, Null, Deref, Member, Address, Moved, Difference, Told}
 use Rattle.c_syntax.specs.Logic.{Links, NoLink, Linked, Zone, Object, Elements, Zones, NoZone, Another, Predicate, Truth, NonZero, Chain, Not, Connected}
-use Rattle.c_syntax.specs.Logic.{Branch, Named, At, Asks, Separated}
+use Rattle.c_syntax.specs.Logic.{Branch, Quantified, Named, At, Asks, Separated}
 use Rattle.c_syntax.specs.declared.logic.Label.TheVariants.{Here, Pre, Marked}
 use Rattle.c_model.specs.Logic.{TermValue, Mathematical, Environment, state_at, Says, held_at, as_address, addressed, compute, both, moved, difference, told}
 use Rattle.c_model.specs.Logic.{object_extent, elements_extent, related, lazily, denied, said, asks, all_apart}
 use Rattle.c_model.specs.MemoryQuestions.{address_farther}
+use Rattle.c_model.specs.QuietPredicates.{IsQuiet}
 use Rattle.c_model.specs.Predicates.{alignment_of, chosen, compute_one, connected, converted, with_extent, term, place, zone, zones, chain, pred}
 use Rattle.c_model.specs.State.{State, Scope}
 use Rattle.annot_simulation.specs.Code.{is_pointer_term}
@@ -36,7 +37,7 @@ module _ (s : State) (e : Environment) (there : Scope) where
     term_alone (Unary at t r op a) f = ap (compute_one op) (term_alone a f)
     term_alone (Binary at t r op a b) f = λ i. both (term_alone a f.0 i) (term_alone b f.1 i) (compute op)
     term_alone (Cast at t r to a) f = ap (converted to) (term_alone a f.1)
-    term_alone (Choice at t r c a b) f = λ i. chosen (pred_alone c f.0 0 i) (term_alone a f.1 i) (term_alone b f.2 i)
+    term_alone (Choice at t r c a b) f = λ i. chosen (pred_alone c f.0 f.1 0 i) (term_alone a f.2 i) (term_alone b f.3 i)
     term_alone (Deref at t r a) f = ap (λ x. held_at s.store t (as_address x)) (pointer_alone a f.1)
     term_alone (Member at t r d a) f = ap (λ x. held_at s.store t (option_map (λ x. address_farther x (pos d)) x)) (place_alone a f.1)
     term_alone (Difference at t r n a b) f = λ i. difference s.store n (as_address (pointer_alone a f.1 i)) (as_address (pointer_alone b f.2 i))
@@ -55,7 +56,7 @@ module _ (s : State) (e : Environment) (there : Scope) where
     pointer_alone (Address at t r a) f = ap addressed (place_alone a f)
     pointer_alone (Moved at t r op n a b) f = λ i. moved op n (pointer_alone a f.0 i) (term_alone b f.1 i)
     pointer_alone (Cast at t r to a) f = ap (converted to) (pointer_alone a f.1)
-    pointer_alone (Choice at t r c a b) f = λ i. chosen (pred_alone c f.0 0 i) (pointer_alone a f.1 i) (pointer_alone b f.2 i)
+    pointer_alone (Choice at t r c a b) f = λ i. chosen (pred_alone c f.0 f.1 0 i) (pointer_alone a f.2 i) (pointer_alone b f.3 i)
     pointer_alone (Told at t r g a) f = ap (λ x. told s.store g (as_address x)) (pointer_alone a f.1)
     pointer_alone (Named at t r x) f = absurd cc
     pointer_alone (At at t r Here a) f = pointer_alone a f
@@ -84,18 +85,18 @@ module _ (s : State) (e : Environment) (there : Scope) where
         (λ i. lazily (related s.store r a (side i) n) (chain (side i) rest u []) (Says false))
         ∙ (λ i. lazily (related s.store r a (term v s e) n) (λ k. chain_alone (term v s e) v rest f.2 k i) (Says false))
 
-    pub pred_alone : (p : Predicate) → PredicateFound [] there [] p → (n : ℕ) → pred p u [] n ≡ pred p s e n
-    pred_alone (Truth at b) f n = refl
-    pred_alone (NonZero at t) f n = ap (λ x. related s.store Ne x (Some (Mathematical (pos 0))) n) (term_alone t f)
-    pred_alone (Chain at t links) f n =
+    pub pred_alone : (p : Predicate) → IsQuiet p → PredicateFound [] there [] p → (n : ℕ) → pred p u [] n ≡ pred p s e n
+    pred_alone (Truth at b) k f n = refl
+    pred_alone (NonZero at t) k f n = ap (λ x. related s.store Ne x (Some (Mathematical (pos 0))) n) (term_alone t f)
+    pred_alone (Chain at t links) k f n =
         let side : term t u [] ≡ term t s e = either (is_pointer_term t) (PointerFound [] there [] t) (TermFound [] there [] t) (pointer_alone t) (term_alone t) f.0 in
         (λ i. chain (side i) links u [] n) ∙ chain_alone (term t s e) t links f.1 n
-    pred_alone (Not at p) f n = ap denied (pred_alone p f n)
-    pred_alone (Connected at c p q) f n = λ i. connected c (pred_alone p f.0 n i) (λ k. pred_alone q f.1 k i)
-    pred_alone (Branch at c p q) f n = λ i. lazily (pred_alone c f.0 n i) (λ k. pred_alone p f.1 k i) (λ k. pred_alone q f.2 k i)
-    pred_alone (Asks at g z) f n = ap (λ x. said (option_map (asks g s.store (alignment_of z)) x) n) (zone_alone z f)
-    pred_alone (Separated at zs) f n = ap (λ x. said (option_map all_apart x) n) (zones_alone zs f)
-    pred_alone _ f n = absurd f
+    pred_alone (Not at p) k f n = ap denied (pred_alone p k f n)
+    pred_alone (Connected at c p q) k f n = λ i. connected c (pred_alone p k.0 f.0 n i) (λ m. pred_alone q k.1 f.1 m i)
+    pred_alone (Branch at c p q) k f n = λ i. lazily (pred_alone c k.0 f.0 n i) (λ m. pred_alone p k.1 f.1 m i) (λ m. pred_alone q k.2 f.2 m i)
+    pred_alone (Asks at g z) k f n = ap (λ x. said (option_map (asks g s.store (alignment_of z)) x) n) (zone_alone z f)
+    pred_alone (Separated at zs) k f n = ap (λ x. said (option_map all_apart x) n) (zones_alone zs f)
+    pred_alone (Quantified at q gs p) k f n = absurd k
 
 -- so it has the same value in another environment
 pub term_named : (t : LogicTerm) (s : State) (e : Environment) (there : Scope) → TermFound [] there [] t → term t s e ≡ term t s []

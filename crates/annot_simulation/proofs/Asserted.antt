@@ -1,21 +1,22 @@
 -- The code of annotations: how deep it stands, and the registers that it takes.
-use Rattle.std.proofs.Common.{ℕ, ◌≤◌, pos, false, List, [], ◌∷◌, ◌++◌, length, Option, Some, None, arith}
-use Rattle.c_syntax.specs.Logic.{ClauseBody, Raw, Holds, Value, Behaviors, Annotation}
+use Rattle.std.proofs.Common.{◌≡◌, ℕ, ◌≤◌, pos, true, false, refl, List, [], ◌∷◌, ◌++◌, length, Option, Some, None, arith}
+use Rattle.c_syntax.specs.Logic.{ClauseBody, Raw, Holds, Value, Behaviors, Annotation, LogicTerm}
 use Rattle.c_syntax.specs.Programs.{TranslationUnit}
-use Rattle.c_model.specs.Formed.{IsShortClause, AreAsserts}
+use Rattle.c_model.specs.Formed.{IsShortClause, AreAsserts, tokens_of_term}
 use Rattle.mon_syntax.specs.declared.tree.MonType.{MonType}
 use Rattle.mon_syntax.specs.declared.tree.MonType.TheVariants.{I32}
 use Rattle.mon_syntax.specs.Registers.{Bindings}
 use Rattle.mon_syntax.specs.Trees.{MonExpression, Register, Global, Constant, Binary, Minus, Flip, Cast, Load, MonStatements, Assert, If}
-use Rattle.mon_syntax.specs.Valid.{Types, depth_of_all}
+use Rattle.mon_syntax.specs.Valid.{Types, depth_of_all, has_no_step}
 use Rattle.c_effects.specs.Expressions.{before, one, set}
 use Rattle.c_simulation.specs.Keeping.{Kept}
 use Rattle.annot_simulation.specs.Held.{Held}
-use Rattle.annot_simulation.specs.Code.{Code, Judgement, pred_code, truth_code, judged_by, judged_anew, judged_with, clause_judgement, asserted, assertion, behind_assertion, assertions, behind_assertions}
+use Rattle.annot_simulation.specs.Code.{Code, Judgement, pred_code, take, term_code, type_of, valuation, truth_code, judged_by, judged_anew, judged_with, clause_judgement, asserted, assertion, behind_assertion, assertions, behind_assertions}
 use Rattle.annot_simulation.specs.Validity.{Begins}
-use Rattle.annot_simulation.proofs.Depths.{deep_before, deep_if, pred_deep}
+use Rattle.annot_simulation.proofs.Depths.{deep_before, deep_if, deep_take, pred_deep, term_deep}
 use Rattle.annot_simulation.proofs.Grows.{longer, pred_grows}
-use Rattle.annot_simulation.proofs.Prefixes.{judged_begins, pred_begins}
+use Rattle.annot_simulation.proofs.Prefixes.{judged_begins, pred_begins, term_begins}
+use Rattle.annot_simulation.proofs.Inside.{Inside, anew_inside, before_inside, judgement_inside, nothing_inside, take_inside, term_inside}
 use Rattle.annot_simulation.proofs.Typed.{begins_front}
 
 -- ---- how deep
@@ -118,3 +119,44 @@ assertion_begins ts p bound plan held rs a h = clause_begins p bound plan held t
 pub behind_begins : (ts : Types) (p : TranslationUnit) (bound : Bindings) (plan : List Kept) (held : List Held) (rs : List MonType) (l : List Annotation) → Begins (behind_assertions p bound plan held rs l) ts → Begins rs ts
 behind_begins ts p bound plan held rs [] h = h
 behind_begins ts p bound plan held rs (a ∷ rest) h = assertion_begins ts p bound plan held rs a (behind_begins ts p bound plan held (behind_assertion p bound plan held rs a) rest h)
+
+-- ---- steps
+
+-- the statements of a clause have no step of a loop around them
+clause_inside : (p : TranslationUnit) (bound : Bindings) (plan : List Kept) (held : List Held) (b : ClauseBody) (rs : List MonType) → Inside (clause_judgement p bound plan held b rs).stmts
+clause_inside p bound plan held (Raw f) rs = anew_inside (Constant I32 (pos 0)) (truth_code false rs) nothing_inside
+clause_inside p bound plan held (Holds q) rs = let i = judgement_inside p bound plan held q rs in (i.stay, i.no_step)
+clause_inside p bound plan held (Value t) rs = anew_inside (Constant I32 (pos 0)) (truth_code false rs) nothing_inside
+clause_inside p bound plan held (Behaviors names) rs = anew_inside (Constant I32 (pos 0)) (truth_code false rs) nothing_inside
+
+assertion_inside : (p : TranslationUnit) (bound : Bindings) (plan : List Kept) (held : List Held) (rs : List MonType) (a : Annotation) → Inside (assertion p bound plan held rs a)
+assertion_inside p bound plan held rs a =
+    let j = clause_judgement p bound plan held a.body rs in
+    before_inside j.stmts (one (Assert (Register j.flag) (Register j.truth) a.number a.place.line a.kind)) (clause_inside p bound plan held a.body rs) ((tt, tt), refl)
+
+pub no_step_assertion : (p : TranslationUnit) (bound : Bindings) (plan : List Kept) (held : List Held) (rs : List MonType) (a : Annotation) → has_no_step (assertion p bound plan held rs a) ≡ true
+no_step_assertion p bound plan held rs a = (assertion_inside p bound plan held rs a).1
+
+-- ---- values of terms
+
+module _ (p : TranslationUnit) (bound : Bindings) (plan : List Kept) (held : List Held) (t : LogicTerm) (rs : List MonType) where
+  abbrev value_code : Code
+  value_code = term_code p bound plan t held [] rs
+
+  pub valuation_begins : (ts : Types) → Begins (valuation p bound plan held t rs).used ts → Begins rs ts
+  valuation_begins ts b = term_begins ts p bound plan t held [] rs (begins_front value_code.used (I32 ∷ type_of t ∷ []) ts b)
+
+  pub valuation_deep : tokens_of_term t ≤ 400 → depth_of_all (valuation p bound plan held t rs).stmts ≤ 803
+  valuation_deep few =
+      let c = value_code in
+      let d = term_deep p bound plan t held [] rs in
+      let l = deep_take c.flag c.value (length c.used) in
+      deep_before c.stmts (take c.flag c.value (length c.used)) 803 (omega (arith, d, few)) (omega (arith, l))
+
+  pub valuation_inside : Inside (valuation p bound plan held t rs).stmts
+  valuation_inside =
+      let c = value_code in
+      before_inside c.stmts (take c.flag c.value (length c.used)) (term_inside p bound plan t held [] rs) (take_inside c.flag c.value (length c.used))
+
+  pub no_step_valuation : has_no_step (valuation p bound plan held t rs).stmts ≡ true
+  no_step_valuation = valuation_inside.1

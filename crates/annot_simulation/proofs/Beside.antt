@@ -28,10 +28,11 @@ use Rattle.c_simulation.specs.Standing as call
 use Rattle.c_simulation.specs.Keeping.{Kept, GivesTerm, GiveTerms, StandBelow, kept_value, registers_of}
 use Rattle.c_simulation.specs.Standing.{Anchored, AreBounded, Bounded, IsKept}
 use Rattle.c_simulation.proofs.Anchors.{pointer_has}
-use Rattle.annot_simulation.specs.Beside.{AreHeld, judging, StandingStands, BoundedStatesKeepRanges, ResultsKeepRanges, StandingKeepsRanges, SoundJudgementsKeepRanges, TypedPredicatesAreFound, TermsUnderLabelsAreFound, JudgedPredicatesAreFound}
+use Rattle.annot_simulation.specs.Beside.{AreHeld, judging, StandingStands, BoundedStatesKeepRanges, ResultsKeepRanges, StandingKeepsRanges, SoundJudgementsKeepRanges, TypedPredicatesAreFound, TypedTermsAreFound, TermsUnderLabelsAreFound}
+use Rattle.annot_simulation.specs.Beside.{JudgedPredicatesAreFound}
 use Rattle.annot_simulation.specs.Does.{Stands, Target}
 use Rattle.annot_simulation.specs.Held.{Held, kept_at}
-use Rattle.annot_simulation.proofs.Found.{typed_found, under_found}
+use Rattle.annot_simulation.proofs.Found.{typed_found, typed_term_found, under_found}
 use Rattle.annot_simulation.proofs.SoundStores.{bounded_fits, bounded_sound}
 
 -- ---- registers and blocks
@@ -85,41 +86,18 @@ state_fits s bounded past = record { now = store_fits s.store bounded; past = λ
 
 -- no name is in sight
 pub ranges_hold : BoundedStatesKeepRanges
-ranges_hold ks ns s bounded past = record {
-  lies = λ t found ranged z means.
-      terms_lie_in_ranges [] t s [] (Mathematical z) (state_fits s bounded past)
-      (record { within = λ x r f. absurd cc; lies = λ l u x r w at f g. absurd cc }) ranged means;
-  within = λ t ranged. ranges_are_within_128 [] t tt ranged;
+ranges_hold s bounded past = record {
+  state = state_fits s bounded past;
+  names = record { within = λ x r f. absurd cc; lies = λ l u x r w at f g. absurd cc };
 }
 
 pub standing_keeps_ranges : StandingKeepsRanges
-standing_keeps_ranges w h low bound now regs m ks ns = ranges_hold ks ns now m.bounded m.kept.keeps.past
+standing_keeps_ranges w h low bound now regs m = ranges_hold now m.bounded m.kept.keeps.past
 
 -- ---- judged states
 
--- `\result` is the one name that is seen
-result_seen : (o : Option Range) → EachSeen IsWithin128 (seen_as o) → AreSeen IsWithin128 (seen_as o)
-result_seen None h = tt
-result_seen (Some r) h = (h result_number r refl, tt)
-
-abbrev seen_by : PlainType → Option Scalar → Seen
-seen_by t o = elim o [ None ↦ [] | Some k ↦ seen_as (place_range (Some t)) ]
-
-type_seen : (t : PlainType) (o : Option Scalar) → EachSeen IsWithin128 (seen_by t o) → AreSeen IsWithin128 (seen_by t o)
-type_seen t None h = tt
-type_seen t (Some k) h = result_seen (place_range (Some t)) h
-
-names_seen : (o : Option Result) → EachSeen IsWithin128 (seen_with o) → AreSeen IsWithin128 (seen_with o)
-names_seen None h = tt
-names_seen (Some r) h = type_seen r.ctype (scalar_of r.ctype) h
-
 pub sound_judgements_keep_ranges : SoundJudgementsKeepRanges
-sound_judgements_keep_ranges p j sound ks ns =
-    let fit = sound_judgements_fit p j sound in
-    record {
-      lies = λ t found ranged z means. terms_lie_in_ranges (seen_with j.result) t j.state (names_with j.result) (Mathematical z) fit.state fit.names ranged means;
-      within = λ t ranged. ranges_are_within_128 (seen_with j.result) t (names_seen j.result fit.names.within) ranged;
-    }
+sound_judgements_keep_ranges p j sound = let fit = sound_judgements_fit p j sound in record { state = fit.state; names = fit.names }
 
 -- a value that a function returns is of a scalar type
 returned_fits : (t : PlainType) (v : Value) (s : State) → IsReturned t v → NamesFit (seen_in t) s (result_is v)
@@ -133,12 +111,7 @@ returned_fits (StructTag x tag) v s h = absurd h
 returned_fits (EnumTag x at) v s h = absurd h
 
 pub results_keep_ranges : ResultsKeepRanges
-results_keep_ranges ks ns s t v bounded past returned =
-    let names = returned_fits t v s returned in
-    record {
-      lies = λ a found ranged z means. terms_lie_in_ranges (seen_in t) a s (result_is v) (Mathematical z) (state_fits s bounded past) names ranged means;
-      within = λ a ranged. ranges_are_within_128 (seen_in t) a (type_seen t (scalar_of t) names.within) ranged;
-    }
+results_keep_ranges s t v bounded past returned = record { state = state_fits s bounded past; names = returned_fits t v s returned }
 
 -- ---- variables
 
@@ -160,11 +133,14 @@ named_found : (s : Sight) (scope : Scope) (x : Use) (t : PlainType) → NamesFou
 named_found s scope x t h d = subst (IsFound scope) (sym d.decl) (h x.name d.object d.found)
 
 pub typed_predicates_are_found : TypedPredicatesAreFound
-typed_predicates_are_found s scope ks ns found result p planned q = typed_found s scope ks ns (λ x t d. denoted_found s.here scope x t found d) result p planned q
+typed_predicates_are_found s scope ks ns found result bound p apart planned q = typed_found s scope ks ns (λ x t d. denoted_found s.here scope x t found d) result bound p apart planned q
+
+pub typed_terms_are_found : TypedTermsAreFound
+typed_terms_are_found s scope ks ns found result bound t planned int q = typed_term_found s scope ks ns (λ x t d. denoted_found s.here scope x t found d) result bound t planned int q
 
 pub terms_under_labels_are_found : TermsUnderLabelsAreFound
 terms_under_labels_are_found s v scope found a q i = under_found s v scope (λ x t d. denoted_found v scope x t found d) a q i
 
 pub judged_predicates_are_found : JudgedPredicatesAreFound
-judged_predicates_are_found j p ks ns h result planned e =
-    typed_found h.sight j.state.scope ks ns (λ x t d. named_found h.sight.here j.state.scope x t (names_in_sight j h) d) result p planned (predicate_in_sight j p h e)
+judged_predicates_are_found j p ks ns h result bound apart planned e =
+    typed_found h.sight j.state.scope ks ns (λ x t d. named_found h.sight.here j.state.scope x t (names_in_sight j h) d) result bound p apart planned (predicate_in_sight j p h e)

@@ -1,5 +1,5 @@
 -- Registers of the code of labels and checks are added behind those that are taken before it.
-use Rattle.std.proofs.Common.{ℕ, Bool, true, false, cond, List, [], ◌∷◌, Option, Some, None}
+use Rattle.std.proofs.Common.{ℕ, ◌≤◌, length, arith, Bool, true, false, cond, List, [], ◌∷◌, Option, Some, None}
 use Rattle.c_syntax.specs.declared.place.Place.{Place}
 use Rattle.c_syntax.specs.Logic as logic
 use Rattle.c_syntax.specs.Logic.{Annotation, ClauseBody, Raw, Holds, Behaviors}
@@ -15,7 +15,8 @@ use Rattle.annot_simulation.specs.ContractCode.{behind_check, behind_checks, beh
 use Rattle.annot_simulation.specs.Held.{Held}
 use Rattle.annot_simulation.specs.Snapshots.{behind_keep, behind_snapshot, entry_side}
 use Rattle.annot_simulation.specs.Validity.{Begins}
-use Rattle.annot_simulation.proofs.Asserted.{assertion_begins}
+use Rattle.annot_simulation.proofs.Asserted.{assertion_begins, assertion_grows}
+use Rattle.annot_simulation.proofs.Grows.{longer}
 use Rattle.annot_simulation.proofs.Prefixes.{pointer_begins, term_begins}
 use Rattle.annot_simulation.proofs.Typed.{begins_front}
 
@@ -61,3 +62,25 @@ module _ (ts : Types) (p : TranslationUnit) (bound : Bindings) (plan : List Kept
   checks_begin (c ∷ cs) o rs b =
       check_begins c.annotation c.behavior o rs
       (checks_begin cs (counted_by p bound plan held bs h o rs c.annotation c.behavior) (behind_check p bound plan held bs h o rs c.annotation c.behavior) b)
+
+-- ---- how many registers there are then
+
+module _ (p : TranslationUnit) (bound : Bindings) (plan : List Kept) (held : List Held) (bs : List NamedBehavior) (h : ℕ) where
+  cover_more : (names : List (Place × ℕ)) (o : Option ℕ) (rs : Types) → length rs ≤ length (behind_cover p bound plan held bs h names o rs)
+  cover_more [] None rs = longer rs (I32 ∷ [])
+  cover_more [] (Some c) rs = omega arith
+  cover_more (n ∷ names) o rs = longer rs (I32 ∷ [])
+
+  demand_more : (a : Annotation) (c : ClauseBody) (o : Option ℕ) (rs : Types) → length rs ≤ length (behind_demand p bound plan held bs h o rs a c)
+  demand_more a (Raw f) o rs = assertion_grows p bound plan held rs a
+  demand_more a (Holds q) o rs = assertion_grows p bound plan held rs a
+  demand_more a (logic.Value t) o rs = assertion_grows p bound plan held rs a
+  demand_more a (Behaviors names) o rs = cover_more names o rs
+
+  pub check_more : (a : Annotation) (k : Option ℕ) (o : Option ℕ) (rs : Types) → length rs ≤ length (behind_check p bound plan held bs h o rs a k)
+  check_more a None o rs = demand_more a a.body o rs
+  check_more a (Some k) o rs = by (is_assumes a.kind)
+    where
+      by : (t : Bool) → length rs ≤ length (cond t (behind_assertion p bound plan held rs a) (behind_demand p bound plan held bs h o rs a a.body))
+      by true = assertion_grows p bound plan held rs a
+      by false = demand_more a a.body o rs

@@ -18,7 +18,7 @@ use Rattle.annot_simulation.proofs.Quiet.{connected}
 -- ---- operators on truths
 
 -- both sides asked
-asked_is : (c : Connective) (x y : Bool) (z : ℤ) → truths (connected c (Some x) (Some y)) ≡ Some z → operate (connective_operator c) I32 (truth x) (truth y) ≡ Some z
+pub asked_is : (c : Connective) (x y : Bool) (z : ℤ) → truths (connected c (Some x) (Some y)) ≡ Some z → operate (connective_operator c) I32 (truth x) (truth y) ≡ Some z
 asked_is And true true z e = e
 asked_is And true false z e = e
 asked_is And false true z e = e
@@ -64,7 +64,7 @@ left_none Iff v = refl
 left_none Xor v = refl
 
 -- where both are asked
-data IsStrict : Connective → Type 0 where
+pub data IsStrict : Connective → Type 0 where
   IsIff : IsStrict Iff
   IsXor : IsStrict Xor
 
@@ -82,12 +82,12 @@ truths_chosen None a b = refl
 truths_chosen (Some true) a b = refl
 truths_chosen (Some false) a b = refl
 
-none_there : (a : MonStatements) (f : Option MonExpression) → has_none a f ≡ true → (a ≡ NoStatement) × (f ≡ None)
+pub none_there : (a : MonStatements) (f : Option MonExpression) → has_none a f ≡ true → (a ≡ NoStatement) × (f ≡ None)
 none_there NoStatement None e = (refl, refl)
 none_there NoStatement (Some g) e = absurd cc
 none_there (Then a rest) f e = absurd cc
 
-conjunction_none : (f : Option MonExpression) → conjunction f None ≡ f
+pub conjunction_none : (f : Option MonExpression) → conjunction f None ≡ f
 conjunction_none None = refl
 conjunction_none (Some e) = refl
 

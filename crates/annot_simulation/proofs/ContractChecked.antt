@@ -47,7 +47,7 @@ use Rattle.annot_simulation.proofs.Exact.{wrap_in}
 use Rattle.annot_simulation.proofs.Grows.{pred_grows, longer}
 use Rattle.annot_simulation.proofs.Snapshots.{gives_moved, stays_all}
 use Rattle.annot_simulation.proofs.Steps.{same_all, same_trans, same_set, set_first, operation, get-set_same, after_runs, after_to, stopped, writes_none, HasNumber, set_runs, if_true, if_false, constant_has}
-use Rattle.annot_simulation.proofs.Theorem.{code_judges, judged_with_grows}
+use Rattle.annot_simulation.proofs.Outcomes.{code_judges, judged_with_grows}
 
 -- ---- flags of behaviors
 
@@ -150,7 +150,7 @@ module _ (w : Setting) (n m : ℕ) (stands : StandsFor n m w) where
     sound = stands.apart.sound;
   }
 
-  module _ (a : Annotation) (q : Predicate) (ranged : PredicateRanged w.seen q) (found : PredicateFound w.plan w.now.scope (sorts_held w.held) q) (i : ℕ) (rs : List MonType) (low : w.low ≤ length rs) (regs : List Value)
+  module _ (a : Annotation) (q : Predicate) (ranged : PredicateRanged w.seen q) (found : PredicateFound w.plan w.now.scope (sorts_held w.held) q) (i : ℕ) (enough : i ≤ w.turns) (rs : List MonType) (low : w.low ≤ length rs) (regs : List Value)
       (stays : Stays n m w.low w.regs regs) (room : length (judgement w.unit w.bound w.plan w.held q rs).used ≤ length regs) where
     abbrev j : Judgement
     j = judgement w.unit w.bound w.plan w.held q rs
@@ -162,7 +162,7 @@ module _ (w : Setting) (n m : ℕ) (stands : StandsFor n m w) where
     answer = pred q (left_with i w.now) w.names i
 
     does : Judges (from_here i w regs) rs j answer
-    does = code_judges (from_here i w regs) q rs (stands_here i regs stays) (stands.ranges i) ranged found low room
+    does = code_judges (from_here i w regs) q rs (stands_here i regs stays) (stands.ranges i) ranged found enough low room
 
     falls : steps_of answer ≤ i
     falls = steps_pred q (left_with i w.now) w.names i
@@ -471,7 +471,7 @@ module _ (w : Setting) (bs : List NamedBehavior) (h i : ℕ) (hs : List Bool) (l
       asks_number (length (rs ++ I32 ∷ [])) o c xs (count c fs) s.after s.is s.same s.total_is (counted_moved h (length rs) (length (rs ++ I32 ∷ [])) o hs regs s.after (omega (arith, two)) (λ j lt out. s.same.below j lt) x)
 
 module _ (w : Setting) (n m : ℕ) (stands : StandsFor n m w) (bs : List NamedBehavior) (h : ℕ) where
-  module _ (i : ℕ) (hs : List Bool) (long : length hs ≡ length bs) (rs : List MonType) (low : w.low ≤ length rs) (in_rs : h + length hs ≤ length rs) (regs : List Value)
+  module _ (i : ℕ) (enough : i ≤ w.turns) (hs : List Bool) (long : length hs ≡ length bs) (rs : List MonType) (low : w.low ≤ length rs) (in_rs : h + length hs ≤ length rs) (regs : List Value)
       (flagged : Flagged h hs regs) (stays : Stays n m w.low w.regs regs) (o : Option ℕ) (x : Counted h (length rs) o hs regs) (a : Annotation) where
     abbrev here : State
     here = left_with i w.now
@@ -500,7 +500,7 @@ module _ (w : Setting) (n m : ℕ) (stands : StandsFor n m w) (bs : List NamedBe
     demand_of (Holds q) e good room =
         let used : length (clause_of a.body).used ≡ length (judgement w.unit w.bound w.plan w.held q rs).used = ap (λ c. length (clause_of c).used) e in
         demands w i h (length (dbehind (Holds q))) o hs (demand bs w.names a (Holds q) hs here) (runs there (dcode (Holds q)) regs) rs regs (demand_grows w bs h o rs a (Holds q)) x
-        (subst Met_by (sym e) (assertion_does w n m stands a q good.0 good.1 i rs low regs stays (omega (arith, used, room))))
+        (subst Met_by (sym e) (assertion_does w n m stands a q good.0 good.1 i enough rs low regs stays (omega (arith, used, room))))
     demand_of (logic.Value t) e good room = absurd good
     demand_of (Behaviors names) e good room = covers w bs h i hs long rs in_rs regs flagged a names o good.0 good.1 x room
 
@@ -552,7 +552,7 @@ module _ (w : Setting) (n m : ℕ) (stands : StandsFor n m w) (bs : List NamedBe
           let fine : ClauseGood w bs h (Holds q.0) = subst (ClauseGood w bs h) q.1 good in
           let used : length (clause_of a.body).used ≡ length (judgement w.unit w.bound w.plan w.held q.0 rs).used = ap (λ c. length (clause_of c).used) q.1 in
           uncounted (length (clause_of a.body).used) (of_behavior bs w.names a k hs true here) (runs there (behavior_code w.unit w.bound w.plan w.held bs h o rs a k true) regs)
-          (subst (λ c. Assumed_by c []) (sym q.1) (subst (Assumed_by (Holds q.0)) q.2 (assumption_does w n m stands a q.0 fine.0 fine.1 i rs low regs stays (omega (arith, used, room)) h hs k lt holds in_rs flagged)))
+          (subst (λ c. Assumed_by c []) (sym q.1) (subst (Assumed_by (Holds q.0)) q.2 (assumption_does w n m stands a q.0 fine.0 fine.1 i enough rs low regs stays (omega (arith, used, room)) h hs k lt holds in_rs flagged)))
       asked false p holds room =
           forgotten (length (dbehind a.body)) (dcounted a.body) (of_behavior bs w.names a k hs false here) (runs there (behavior_code w.unit w.bound w.plan w.held bs h o rs a k false) regs) (demand_grows w bs h o rs a a.body)
           (demand_checked good room) same_hold
@@ -607,13 +607,14 @@ module _ (w : Setting) (n m : ℕ) (stands : StandsFor n m w) (bs : List NamedBe
   Follow o rs cs i hs regs = Checked w i h hs (all_checked bs w.names cs hs (left_with i w.now)) (runs (with_steps i w) (code_of_checks o rs cs) regs) rs regs
 
   -- the code of checks does what they do, in their order, from so many steps on
-  pub checks_follow : (cs : List Check) (i : ℕ) (hs : List Bool) → length hs ≡ length bs → AreGood w bs h (length hs) cs → h + length hs ≤ m → (o : Option ℕ) (rs : List MonType) → w.low ≤ length rs → h + length hs ≤ length rs
+  pub checks_follow : (cs : List Check) (i : ℕ) → i ≤ w.turns → (hs : List Bool) → length hs ≡ length bs → AreGood w bs h (length hs) cs → h + length hs ≤ m → (o : Option ℕ) (rs : List MonType) → w.low ≤ length rs → h + length hs ≤ length rs
       → (regs : List Value) → length (behind_all o rs cs) ≤ length regs → Flagged h hs regs → Counted h (length rs) o hs regs → Stays n m w.low w.regs regs
       → Checked w i h hs (all_checked bs w.names cs hs (left_with i w.now)) (runs (with_steps i w) (code_of_checks o rs cs) regs) rs regs
-  checks_follow [] i hs long good before_end o rs low in_rs regs room flagged x stays = Goes i hs regs (omega arith) refl (stays_all h (h + length hs) (length rs) regs) flagged refl refl
-  checks_follow (c ∷ cs) i hs long good before_end o rs low in_rs regs room flagged x stays =
-      by (one_checked w n m stands bs h i hs long rs low in_rs regs flagged stays o x c.annotation c.behavior good.0 (omega (arith, room, more)))
-      (λ k held after le l s f y. checks_follow cs k held (l ∙ long) (subst (λ i. AreGood w bs h i cs) (sym l) good.1) (omega (arith, l, before_end)) (counted_by w.unit w.bound w.plan w.held bs h o rs c.annotation c.behavior)
+  checks_follow [] i enough hs long good before_end o rs low in_rs regs room flagged x stays = Goes i hs regs (omega arith) refl (stays_all h (h + length hs) (length rs) regs) flagged refl refl
+  checks_follow (c ∷ cs) i enough hs long good before_end o rs low in_rs regs room flagged x stays =
+      by (one_checked w n m stands bs h i enough hs long rs low in_rs regs flagged stays o x c.annotation c.behavior good.0 (omega (arith, room, more)))
+      (λ k held after le l s f y. checks_follow cs k (omega (arith, le, enough)) held (l ∙ long) (subst (λ i. AreGood w bs h i cs) (sym l) good.1) (omega (arith, l, before_end))
+      (counted_by w.unit w.bound w.plan w.held bs h o rs c.annotation c.behavior)
       (behind_one o rs c.annotation c.behavior) (omega (arith, low, grows)) (omega (arith, l, in_rs, grows)) after (let g = s.long in omega (arith, g, room)) f y (further held after l s))
     where
       grows : length rs ≤ length (behind_one o rs c.annotation c.behavior)
@@ -655,4 +656,4 @@ module _ (w : Setting) (n m : ℕ) (stands : StandsFor n m w) (bs : List NamedBe
           (stopped (with_steps i w) (code_of_check o rs c.annotation c.behavior) (code_of_checks (counted_by w.unit w.bound w.plan w.held bs h o rs c.annotation c.behavior) (behind_one o rs c.annotation c.behavior) cs) regs z k g)
 
 pub checks_follow_all : ChecksFollow
-checks_follow_all w n m stands bs h behind cs i hs long good before_end rs low in_rs regs room flagged stays = checks_follow w n m stands bs h behind cs i hs long good before_end None rs low in_rs regs room flagged tt stays
+checks_follow_all w n m stands bs h behind cs i enough hs long good before_end rs low in_rs regs room flagged stays = checks_follow w n m stands bs h behind cs i enough hs long good before_end None rs low in_rs regs room flagged tt stays

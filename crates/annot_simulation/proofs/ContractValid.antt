@@ -34,14 +34,18 @@ use Rattle.annot_simulation.specs.Pieces.{Code, guarded, type_of}
 use Rattle.annot_simulation.specs.Plan.{value_types}
 use Rattle.annot_simulation.specs.Pointers.{PointerCode}
 use Rattle.annot_simulation.specs.Snapshots.{behind_keep, behind_snapshot, entry_side, keep, keep_none, keep_number, keep_pointer, snapshot}
-use Rattle.annot_simulation.specs.Validity.{Begins, PointerWritable, StandIn, TermWritable}
+use Rattle.quantifier_loops.specs.Laws.{IsNumber}
+use Rattle.annot_simulation.specs.Validity.{AreOutside, Begins, HeldTyped, PointerWritable, StandIn, TermWritable}
 use Rattle.annot_simulation.proofs.Asserted.{judged_deep}
 use Rattle.annot_simulation.proofs.Depths.{deep_before, deep_guarded, deep_if, pointer_deep, pred_deep}
 use Rattle.annot_simulation.proofs.Inside.{Inside, before_inside, guarded_inside, judgement_inside, nothing_inside, pointer_inside, term_inside}
 use Rattle.annot_simulation.proofs.Opens.{open_before, open_guarded, open_if, open_one}
-use Rattle.annot_simulation.proofs.CheckPrefixes.{checks_begin, snapshot_begins}
+use Rattle.annot_simulation.proofs.CheckPrefixes.{check_more, checks_begin, snapshot_begins}
+use Rattle.annot_simulation.proofs.Snapshots.{entry_grows}
+use Rattle.annot_simulation.proofs.ValidBinders.{outside_more}
 use Rattle.annot_simulation.proofs.Typed.{arithmetic_typed, begins_front, relation_typed, type_at}
-use Rattle.annot_simulation.proofs.ValidCode.{anywhere, code_is_valid, pointer_valid, term_valid}
+use Rattle.annot_simulation.proofs.ValidCode.{code_is_valid, pointer_valid, term_valid}
+use Rattle.annot_simulation.proofs.ValidTerms.{anywhere}
 use Rattle.annot_simulation.proofs.ValidParts.{FlagValid, Valid, before_valid, expression, flag_open, guarded_valid, register_valid, set_valid}
 use Rattle.annot_simulation.proofs.ValidPointers.{PointerValid}
 
@@ -114,26 +118,30 @@ module _ (g : ℕ) (gs : List Signature) (ts : Types) (result : Option MonType) 
       (set_fine 801 r (Constant I32 (pos 1)) I32 (omega arith) at (refl, refl) (omega arith)))))
       (set_fine 801 r (Constant I32 (pos 0)) I32 (omega arith) at (refl, refl) (omega arith)))
 
-  module _ (p : TranslationUnit) (bound : Bindings) (l : Option ℕ) where
-    keep_fine : (k : Kept) (rs : Types) → TermRanged [] k.term → found_by (is_pointer_term k.term) (PointerWritable p bound [] g ts [] k.term) (TermWritable p bound [] g ts [] k.term) → tokens_of_term k.term ≤ 400
+  none_held : HeldTyped ts []
+  none_held x h e = absurd cc
+
+  module _ (p : TranslationUnit) (bound : Bindings) (l : Option ℕ) (counted : IsNumber (length ts)) where
+    keep_fine : (k : Kept) (rs : Types) → AreOutside ls (length rs) → TermRanged [] k.term → found_by (is_pointer_term k.term) (PointerWritable p bound [] g ts [] k.term) (TermWritable p bound [] g ts [] k.term) → tokens_of_term k.term ≤ 400
         → StandIn ts k.register (I32 ∷ value_types (is_pointer_term k.term) k.term) → Begins (behind_keep (entry_side p bound rs k)) ts → Fine 802 (keep (entry_side p bound rs k) k.register)
-    keep_fine k rs ranged writable few typed b = by (is_pointer_term k.term) writable typed b
+    keep_fine k rs out ranged writable few typed b = by (is_pointer_term k.term) writable typed b
       where
         by : (s : Bool) → found_by s (PointerWritable p bound [] g ts [] k.term) (TermWritable p bound [] g ts [] k.term) → StandIn ts k.register (I32 ∷ value_types s k.term)
             → Begins (behind_keep (side_by s (pointer_code p bound [] k.term [] [] rs) (term_code p bound [] k.term [] [] rs))) ts
             → Fine 802 (keep (side_by s (pointer_code p bound [] k.term [] [] rs) (term_code p bound [] k.term [] [] rs)) k.register)
         by true w typed b =
             let c = pointer_code p bound [] k.term [] [] rs in
-            pointer_fine c (tokens_of_term k.term) k.register few (pointer_valid p bound [] [] [] g gs ts result ls k.term ranged w [] rs few (begins_front c.used (I128 ∷ []) ts b)) (pointer_deep p bound [] k.term [] [] rs)
+            pointer_fine c (tokens_of_term k.term) k.register few (pointer_valid p bound [] g gs ts result counted [] [] ls none_held k.term ranged w [] rs out few (begins_front c.used (I128 ∷ []) ts b)) (pointer_deep p bound [] k.term [] [] rs)
             (pointer_inside p bound [] k.term [] [] rs) typed.0 typed.1.0 typed.1.1.0 (type_at c.used ts I128 b)
         by false w typed b =
             let c = term_code p bound [] k.term [] [] rs in
-            number_fine c (type_of k.term) (tokens_of_term k.term) k.register few (anywhere p bound [] [] [] g gs ts result ls k.term c (term_valid p bound [] [] [] g gs ts result ls k.term ranged w [] rs few b))
+            number_fine c (type_of k.term) (tokens_of_term k.term) k.register few (anywhere p bound [] [] [] g gs ts result ls k.term c (term_valid p bound [] g gs ts result counted [] [] ls none_held k.term ranged w [] rs out few b))
             (term_inside p bound [] k.term [] [] rs) typed.0 typed.1.0
 
-    snapshot_fine : (ks : List Kept) (rs : Types) → AreKeepable p bound g ts l ks → Begins (behind_snapshot p bound l rs ks) ts → Fine 802 (snapshot p bound l rs ks)
-    snapshot_fine [] rs h b = none_fine 802
-    snapshot_fine (k ∷ ks) rs h b = by (same_label k.label l) h.0 b (λ b. snapshot_fine ks (behind_keep (entry_side p bound rs k)) h.1 b) (λ b. snapshot_fine ks rs h.1 b)
+    snapshot_fine : (ks : List Kept) (rs : Types) → AreOutside ls (length rs) → AreKeepable p bound g ts l ks → Begins (behind_snapshot p bound l rs ks) ts → Fine 802 (snapshot p bound l rs ks)
+    snapshot_fine [] rs out h b = none_fine 802
+    snapshot_fine (k ∷ ks) rs out h b = by (same_label k.label l) h.0 b (λ b. snapshot_fine ks (behind_keep (entry_side p bound rs k)) (outside_more ls (length rs) (length (behind_keep (entry_side p bound rs k))) (entry_grows p bound k rs) out) h.1
+        b) (λ b. snapshot_fine ks rs out h.1 b)
       where
         by : (t : Bool)
             → (t ≡ true → TermRanged [] k.term × found_by (is_pointer_term k.term) (PointerWritable p bound [] g ts [] k.term) (TermWritable p bound [] g ts [] k.term) × (tokens_of_term k.term ≤ 400) × StandIn ts k.register
@@ -145,7 +153,7 @@ module _ (g : ℕ) (gs : List Signature) (ts : Types) (result : Option MonType) 
         by true h b f g2 =
             let x = h refl in
             before_fine 802 (keep (entry_side p bound rs k) k.register) (snapshot p bound l (behind_keep (entry_side p bound rs k)) ks)
-            (keep_fine k rs x.0 x.1 x.2 x.3 (snapshot_begins ts p bound l ks (behind_keep (entry_side p bound rs k)) b)) (f b)
+            (keep_fine k rs out x.0 x.1 x.2 x.3 (snapshot_begins ts p bound l ks (behind_keep (entry_side p bound rs k)) b)) (f b)
         by false h b f g2 = g2 b
 
   -- ---- checks
@@ -226,7 +234,7 @@ module _ (g : ℕ) (gs : List Signature) (ts : Types) (result : Option MonType) 
   CountedTyped None = Unit {0}
   CountedTyped (Some c) = slice_get ts c ≡ Some I32
 
-  module _ (p : TranslationUnit) (bound : Bindings) (plan : List Kept) (held : List Held) (seen : Seen) (bs : List NamedBehavior) (h : ℕ) (flags : AreFlags ts (flags_from h bs)) where
+  module _ (p : TranslationUnit) (bound : Bindings) (plan : List Kept) (held : List Held) (seen : Seen) (bs : List NamedBehavior) (h : ℕ) (flags : AreFlags ts (flags_from h bs)) (counted : IsNumber (length ts)) (typed : HeldTyped ts held) where
     abbrev Writable : ClauseBody → Type 0
     Writable c = ClauseWritable p bound plan held seen g ts bs c
 
@@ -236,9 +244,9 @@ module _ (g : ℕ) (gs : List Signature) (ts : Types) (result : Option MonType) 
       flag : slice_get ts j.flag ≡ Some I32
       truth : slice_get ts j.truth ≡ Some I32
 
-    judged_fine : (q : Predicate) (rs : Types) → Writable (Holds q) → Begins (judgement p bound plan held q rs).used ts → JudgedFine (judgement p bound plan held q rs)
-    judged_fine q rs w b =
-        let v = code_is_valid p bound plan held seen g gs ts result ls q rs w.0 w.1 w.2 b in
+    judged_fine : (q : Predicate) (rs : Types) → AreOutside ls (length rs) → Writable (Holds q) → Begins (judgement p bound plan held q rs).used ts → JudgedFine (judgement p bound plan held q rs)
+    judged_fine q rs out w b =
+        let v = code_is_valid p bound plan held seen g gs ts result ls q rs w.0 counted typed out w.1 w.2 b in
         let i = judgement_inside p bound plan held q rs in
         let c = pred_code p bound plan q held [] rs in
         let d = pred_deep p bound plan q held [] rs in
@@ -263,14 +271,14 @@ module _ (g : ℕ) (gs : List Signature) (ts : Types) (result : Option MonType) 
         let fs = named_flags (n ∷ names) h bs in
         (before_fine 803 (count (length rs) fs) (cover_asked a (length rs)) (count_fine (length rs) fs at (flags_typed (n ∷ names) h bs i flags)) (asked_fine a (length rs) k at), x)
 
-    demand_fine : (a : Annotation) (c : ClauseBody) (o : Option ℕ) (rs : Types) → a.body ≡ c → IsNumbered a → Writable c → CountedTyped o → Begins (behind_demand p bound plan held bs h o rs a c) ts
+    demand_fine : (a : Annotation) (c : ClauseBody) (o : Option ℕ) (rs : Types) → AreOutside ls (length rs) → a.body ≡ c → IsNumbered a → Writable c → CountedTyped o → Begins (behind_demand p bound plan held bs h o rs a c) ts
         → Fine 803 (demand_code p bound plan held bs h o rs a c) × CountedTyped (counted_by_demand p bound plan held bs h o rs c)
-    demand_fine a (Raw f) o rs e k w x b = absurd w
-    demand_fine a (Holds q) o rs e k w x b =
+    demand_fine a (Raw f) o rs out e k w x b = absurd w
+    demand_fine a (Holds q) o rs out e k w x b =
         let used = subst (λ c. Begins (clause_judgement p bound plan held c rs).used ts) e b in
-        (subst (λ c. Fine 803 (asserted a (clause_judgement p bound plan held c rs))) (sym e) (assertion_fine a (judgement p bound plan held q rs) k (judged_fine q rs w used)), x)
-    demand_fine a (logic.Value t) o rs e k w x b = absurd w
-    demand_fine a (Behaviors names) o rs e k w x b = cover_fine a names o rs k w x b
+        (subst (λ c. Fine 803 (asserted a (clause_judgement p bound plan held c rs))) (sym e) (assertion_fine a (judgement p bound plan held q rs) k (judged_fine q rs out w used)), x)
+    demand_fine a (logic.Value t) o rs out e k w x b = absurd w
+    demand_fine a (Behaviors names) o rs out e k w x b = cover_fine a names o rs k w x b
 
     assumed_fine : (a : Annotation) (f : ℕ) (j : Judgement) → IsNumbered a → slice_get ts f ≡ Some I32 → JudgedFine j → Fine 803 (assumption_code a f j)
     assumed_fine a f j k at x =
@@ -280,12 +288,13 @@ module _ (g : ℕ) (gs : List Signature) (ts : Types) (result : Option MonType) 
 
     -- ---- checks in their order
 
-    check_fine : (a : Annotation) (k : Option ℕ) (o : Option ℕ) (rs : Types) → IsNumbered a → Writable a.body → ((i : ℕ) → k ≡ Some i → i < length bs) → (is_assumes a.kind ≡ true → (q : Predicate) × (a.body ≡ Holds q)) → CountedTyped o
+    check_fine : (a : Annotation) (k : Option ℕ) (o : Option ℕ) (rs : Types) → AreOutside ls (length rs) → IsNumbered a → Writable a.body → ((i : ℕ) → k ≡ Some i → i < length bs) → (is_assumes a.kind ≡ true → (q : Predicate) × (a.body ≡ Holds q))
+        → CountedTyped o
         → Begins (behind_check p bound plan held bs h o rs a k) ts → Fine 804 (check_code p bound plan held bs h o rs a k) × CountedTyped (counted_by p bound plan held bs h o rs a k)
-    check_fine a None o rs n w below assumes x b =
-        let d = demand_fine a a.body o rs refl n w x b in
+    check_fine a None o rs out n w below assumes x b =
+        let d = demand_fine a a.body o rs out refl n w x b in
         (more_fine 803 804 (demand_code p bound plan held bs h o rs a a.body) (omega arith) d.0, d.1)
-    check_fine a (Some k) o rs n w below assumes x b = by (is_assumes a.kind) assumes b
+    check_fine a (Some k) o rs out n w below assumes x b = by (is_assumes a.kind) assumes b
       where
         at : slice_get ts (h + k) ≡ Some I32
         at = flag_at h k bs (below k refl) flags
@@ -296,30 +305,31 @@ module _ (g : ℕ) (gs : List Signature) (ts : Types) (result : Option MonType) 
             let q = assumes refl in
             let used : Begins (judgement p bound plan held q.0 rs).used ts = subst (λ c. Begins (clause_judgement p bound plan held c rs).used ts) q.1 b in
             let j : JudgedFine (clause_judgement p bound plan held a.body rs) =
-            subst (λ c. JudgedFine (clause_judgement p bound plan held c rs)) (sym q.1) (judged_fine q.0 rs (subst Writable q.1 w) used) in
+            subst (λ c. JudgedFine (clause_judgement p bound plan held c rs)) (sym q.1) (judged_fine q.0 rs out (subst Writable q.1 w) used) in
             (if_fine 803 (h + k) (assumption_code a (h + k) (clause_judgement p bound plan held a.body rs)) at (assumed_fine a (h + k) (clause_judgement p bound plan held a.body rs) n at j), tt)
         by false assumes b =
-            let d = demand_fine a a.body o rs refl n w x b in
+            let d = demand_fine a a.body o rs out refl n w x b in
             (if_fine 803 (h + k) (demand_code p bound plan held bs h o rs a a.body) at d.0, x)
 
-    checks_fine : (cs : List Check) (o : Option ℕ) (rs : Types) → AreCheckable p bound plan held seen g ts bs (length bs) cs → CountedTyped o → Begins (behind_checks p bound plan held bs h o rs cs) ts
+    checks_fine : (cs : List Check) (o : Option ℕ) (rs : Types) → AreOutside ls (length rs) → AreCheckable p bound plan held seen g ts bs (length bs) cs → CountedTyped o → Begins (behind_checks p bound plan held bs h o rs cs) ts
         → Fine 804 (checks_code p bound plan held bs h o rs cs)
-    checks_fine [] o rs k x b = none_fine 804
-    checks_fine (c ∷ cs) o rs k x b =
+    checks_fine [] o rs out k x b = none_fine 804
+    checks_fine (c ∷ cs) o rs out k x b =
         let next = counted_by p bound plan held bs h o rs c.annotation c.behavior in
         let js = behind_check p bound plan held bs h o rs c.annotation c.behavior in
-        let d = check_fine c.annotation c.behavior o rs k.0 k.1 k.2 k.3 x (checks_begin ts p bound plan held bs h cs (counted_by p bound plan held bs h o rs c.annotation c.behavior)
+        let d = check_fine c.annotation c.behavior o rs out k.0 k.1 k.2 k.3 x (checks_begin ts p bound plan held bs h cs (counted_by p bound plan held bs h o rs c.annotation c.behavior)
         (behind_check p bound plan held bs h o rs c.annotation c.behavior) b) in
         before_fine 804 (check_code p bound plan held bs h o rs c.annotation c.behavior)
         (checks_code p bound plan held bs h (counted_by p bound plan held bs h o rs c.annotation c.behavior) (behind_check p bound plan held bs h o rs c.annotation c.behavior) cs) d.0
-        (checks_fine cs (counted_by p bound plan held bs h o rs c.annotation c.behavior) (behind_check p bound plan held bs h o rs c.annotation c.behavior) k.4 d.1 b)
+        (checks_fine cs (counted_by p bound plan held bs h o rs c.annotation c.behavior) (behind_check p bound plan held bs h o rs c.annotation c.behavior)
+        (outside_more ls (length rs) (length (behind_check p bound plan held bs h o rs c.annotation c.behavior)) (check_more p bound plan held bs h c.annotation c.behavior o rs) out) k.4 d.1 b)
 
   valid_of : (n : ℕ) (a : MonStatements) → n ≤ 1300 → Fine n a → AreValid g gs ts result ls a
   valid_of n a le x = record { statements = x.statements; deep = omega (arith, le, x.deep); parens = x.parens; stay = x.inside.0; no_step = x.inside.1 }
 
 pub snapshots_are_valid : SnapshotsAreValid
-snapshots_are_valid p bound g gs ts result ls l ks rs h b = valid_of g gs ts result ls 802 (snapshot p bound l rs ks) (omega arith) (snapshot_fine g gs ts result ls p bound l ks rs h b)
+snapshots_are_valid p bound g gs ts result ls l ks rs h counted out b = valid_of g gs ts result ls 802 (snapshot p bound l rs ks) (omega arith) (snapshot_fine g gs ts result ls p bound l counted ks rs out h b)
 
 pub checks_are_valid : ChecksAreValid
-checks_are_valid p bound plan held seen g gs ts result ls bs h cs rs k flags b =
-    valid_of g gs ts result ls 804 (checks_code p bound plan held bs h None rs cs) (omega arith) (checks_fine g gs ts result ls p bound plan held seen bs h flags cs None rs k tt b)
+checks_are_valid p bound plan held seen g gs ts result ls bs h cs rs k counted typed out flags b =
+    valid_of g gs ts result ls 804 (checks_code p bound plan held bs h None rs cs) (omega arith) (checks_fine g gs ts result ls p bound plan held seen bs h flags counted typed cs None rs out k tt b)

@@ -1,5 +1,5 @@
 -- How deep the code of predicates stands: twice as deep as they have tokens, at most.
-use Rattle.std.proofs.Common.{◌≡◌, ℕ, suc, pos, [], ◌∷◌, ◌+◌, ◌-◌, ◌≤◌, Bool, true, false, if◌then◌else◌, max, List, ◌++◌, length, Option, Some, None, arith}
+use Rattle.std.proofs.Common.{◌≡◌, ℕ, suc, ℤ, ◌*◌, pos, [], ◌∷◌, ◌+◌, ◌-◌, ◌≤◌, Bool, true, false, if◌then◌else◌, max, List, ◌++◌, length, Option, Some, None, arith}
 use Rattle.std.proofs.Math.Nat.{max-le, le-max_left, le-max_right}
 use Rattle.c_syntax.specs.declared.annotation.Relation.{Relation}
 use Rattle.c_syntax.specs.declared.expression.BinOp.{BinOp}
@@ -13,10 +13,17 @@ use Rattle.c_syntax.specs.declared.logic.BlockFact.{BlockFact}
 use Rattle.c_syntax.specs.declared.logic.BlockFact.TheVariants.{BaseAddr}
 use Rattle.c_syntax.specs.Ctypes.{PlainType}
 use Rattle.c_syntax.specs.Ctypes as ctype
-use Rattle.c_syntax.specs.Logic.{LogicTerm, Links, NoLink, Linked, Zone, Zones, NoZone, Another, Predicate, range_of}
+use Rattle.c_syntax.specs.declared.logic.Quantifier.{Quantifier}
+use Rattle.c_syntax.specs.declared.logic.Quantifier.TheVariants.{ForAll, Exists}
+use Rattle.c_syntax.specs.Logic.{LogicTerm, Links, NoLink, Linked, Zone, Zones, NoZone, Another, Predicate, Binder, Guards, NoGuard, Guarded, range_of}
 use Rattle.c_syntax.specs.Logic as logic
 use Rattle.c_syntax.specs.Programs.{TranslationUnit}
-use Rattle.c_model.specs.Formed.{tokens_of_term, tokens_of_zone, tokens_of_zones, tokens_of_links, tokens_of_predicate}
+use Rattle.c_model.specs.Formed.{tokens_of_term, tokens_of_zone, tokens_of_zones, tokens_of_links, tokens_of_predicate, tokens_of_guards}
+use Rattle.c_model.specs.Quantifiers.{first_of, undecided}
+use Rattle.c_model.specs.TermRanges.{lowered, raised}
+use Rattle.quantifier_loops.specs.Tries.{Between, first_behind, from_first, is_one_behind, noted, nothing_noted, one_try}
+use Rattle.quantifier_loops.specs.Upward.{turn_end, upward}
+use Rattle.annot_simulation.specs.Binders.{bounded_code, bounds_relation, greatest_of, index_behind, least_of, over_code, tried_with, tries_code, with_last}
 use Rattle.c_model.specs.Predicates.{alignment_of}
 use Rattle.c_model.specs.Ranges.{width_of_range}
 use Rattle.mon_syntax.specs.declared.tree.MonType.{MonType}
@@ -33,7 +40,7 @@ use Rattle.annot_simulation.specs.Code.{Side, OfNumber, OfPointer, used_by, stmt
 use Rattle.term_guards.specs.Guards.{guard}
 use Rattle.annot_simulation.specs.Code.{term_type, Reading, Code, with_value, conjunction, guarded, two_code, take, take_none, branch, truth_code, is_sure, connective_operator, both_asked, left_first, connected, operated, is_total}
 use Rattle.annot_simulation.specs.Code.{variable_code, is_known, relation_value, relation_code, term_code, chain_code, pred_code, sure_readings, sure_readings_of_term, known_at_right}
-use Rattle.annot_simulation.specs.Code.{type_of_width, wider, working, width_of, type_of, binary_value}
+use Rattle.annot_simulation.specs.Code.{type_of_width, wider, working, width_of, type_of, binary_value, guards_code}
 
 pub deep_before : (a b : MonStatements) (n : ℕ) → depth_of_all a ≤ n → depth_of_all b ≤ n → depth_of_all (before a b) ≤ n
 deep_before NoStatement b n h k = k
@@ -80,6 +87,7 @@ some_tokens (logic.Chain at t links) = omega (arith, some_term t)
 some_tokens (logic.Not at p) = omega arith
 some_tokens (logic.Connected at c p q) = omega arith
 some_tokens (logic.Branch at c p q) = omega arith
+some_tokens (logic.Quantified at q gs p) = omega arith
 some_tokens _ = omega arith
 
 -- ---- parts
@@ -260,6 +268,57 @@ pairs_deep t (z ∷ zs) = deep_before (apart_from_each t z zs) (each_pair t zs) 
 
 -- ---- terms and predicates
 
+-- ---- binders
+
+-- a loop over values stands three levels deep, and what is done with a value in it
+tried_deep : (q : Quantifier) (r : ℕ) (a : MonStatements) (f : Option MonExpression) (e : MonExpression) (n : ℕ) → 3 ≤ n → depth_of_all a ≤ n → depth_of_all (one_try q r a f e) ≤ n
+tried_deep q r a f e n some h = deep_before a (guarded f (noted q r e) (nothing_noted r)) n h (let g = deep_guarded f (noted q r e) (nothing_noted r) 2 (noted_deep q) (omega arith) in omega (arith, g, some))
+  where
+    noted_deep : (q : Quantifier) → depth_of_all (noted q r e) ≤ 2
+    noted_deep ForAll = omega arith
+    noted_deep Exists = omega arith
+
+upward_deep : (k : MonType) (index : ℕ) (from to : MonExpression) (inner : MonStatements) (stop n : ℕ) → 2 ≤ n → depth_of_all inner ≤ n → depth_of_all (one (upward k index from to inner stop)) ≤ 2 + n
+upward_deep k index from to inner stop n some h =
+    let g = deep_before inner (turn_end k index to stop) n h (omega (arith, some)) in
+    max-le (omega (arith, g, some)) (omega arith)
+
+from_first_deep : (o : Option ℤ) (b : Between) (index : ℕ) (inner : MonStatements) (stop n : ℕ) → 2 ≤ n → depth_of_all inner ≤ n → depth_of_all (from_first o b index inner stop) ≤ 2 + n
+from_first_deep None b index inner stop n some h = upward_deep b.kind index (first_behind b) b.to inner stop n some h
+from_first_deep (Some z) b index inner stop n some h = max-le (omega arith) (max-le (omega (arith, some)) (upward_deep b.kind index (Register index) b.to inner stop n some h))
+
+tries_deep : (q : Quantifier) (b : Between) (r : ℕ) (c : Code) (n : ℕ) → 3 ≤ n → depth_of_all c.stmts ≤ n → depth_of_all (tries_code q b r c).stmts ≤ 3 + n
+tries_deep q b r c n some h =
+    let loops = from_first b.least b (suc (suc (suc r))) (one_try q r c.stmts c.flag c.value) (suc (suc r)) in
+    let g = deep_if (is_one_behind b) loops NoStatement (2 + n) (from_first_deep b.least b (suc (suc (suc r))) (one_try q r c.stmts c.flag c.value) (suc (suc r)) n (omega (arith, some)) (tried_deep q r c.stmts c.flag c.value n some h)) (omega arith)
+    in
+    max-le (omega arith) (max-le (omega arith) (max-le (omega arith) (omega (arith, g))))
+
+with_last_deep : (k : MonType) (to : MonExpression) (o : Option ℤ) (go : MonExpression → List MonType → Code) (rs : List MonType) (n : ℕ) → 2 ≤ n → ((to : MonExpression) (js : List MonType) → depth_of_all (go to js).stmts ≤ n)
+    → depth_of_all (with_last k to o go rs).stmts ≤ n
+with_last_deep k to None go rs n some h = h to rs
+with_last_deep k to (Some z) go rs n some h = max-le (omega (arith, some)) (max-le (omega (arith, some)) (h (Register (length rs)) (rs ++ k ∷ [])))
+
+module _ (q : Quantifier) (k : MonType) (to : MonExpression) (most : ℤ) (inner : List Held → List MonType → Code) (n : ℕ) (some : 3 ≤ n) (h : (held : List Held) (js : List MonType) → depth_of_all (inner held js).stmts ≤ n) where
+  over_deep : (from : MonExpression) (least : ℤ) (bs : List Binder) (held : List Held) (rs : List MonType) → depth_of_all (over_code q k to most inner from least bs held rs).stmts ≤ 3 * length bs + n
+  over_deep from least [] held rs = let d = h held rs in omega (arith, d)
+  over_deep from least (b ∷ bs) held rs =
+      with_last_deep k to (greatest_of b.kind most) (λ last js. tries_code q (bounds last) (length js) (others js)) rs (3 * length (b ∷ bs) + n) (omega (arith, some)) (λ last js.
+      let d = tries_deep q (bounds last) (length js) (others js) (3 * length bs + n) (omega (arith, some))
+      (over_deep (Register (index_behind js)) (first_of b.kind (raised b.above least)) bs (record { number = b.place.offset; register = index_behind js; kind = k } ∷ held) (tried_with k js)) in
+      omega (arith, d))
+    where
+      bounds : MonExpression → Between
+      bounds last = record { above = b.above; kind = k; least = least_of b.kind (raised b.above least); from = from; to = last }
+
+      others : List MonType → Code
+      others js =
+          over_code q k to most inner (Register (index_behind js)) (first_of b.kind (raised b.above least)) bs (record { number = b.place.offset; register = index_behind js; kind = k } ∷ held) (tried_with k js)
+
+pub bounded_deep : (q : Quantifier) (below : Bool) (k : MonType) (from to : MonExpression) (least most : ℤ) (bs : List Binder) (inner : List Held → List MonType → Code) (held : List Held) (rs : List MonType) (n : ℕ) → 3 ≤ n
+    → ((held : List Held) (js : List MonType) → depth_of_all (inner held js).stmts ≤ n) → depth_of_all (bounded_code q below k from to least most bs inner held rs).stmts ≤ 3 * length bs + n
+bounded_deep q below k from to least most bs inner held rs n some h = max-le (omega (arith, some)) (over_deep q k (Register (length rs)) most inner n some h from least bs held (rs ++ k ∷ []))
+
 module _ (p : TranslationUnit) (bound : Bindings) (plan : List Kept) where
   variable_deep : (b : Bool) (w : MonType) (x : Reading) (rs : List MonType) → depth_of_all (variable_code p bound b w x rs).stmts ≤ 2
   variable_deep true w x rs = omega arith
@@ -414,4 +473,26 @@ module _ (p : TranslationUnit) (bound : Bindings) (plan : List Kept) where
         let d = zones_deep zs held known rs in
         let g = deep_guarded c.flag pairs NoStatement 1 (max-le (omega arith) (pairs_deep (length c.used) c.zones)) (omega arith) in
         deep_before c.stmts (guarded c.flag pairs NoStatement) (n + n) (omega (arith, d)) (omega (arith, g))
-    pred_deep _ held known rs = omega arith
+    pred_deep (logic.Quantified at q gs a) held known rs =
+        let d = guards_deep q gs (pred_code p bound plan a) (tokens_of_predicate a) (some_tokens a) held known rs (λ held known rs. pred_deep a held known rs) in omega (arith, d)
+
+    pub guards_deep : (q : Quantifier) (gs : Guards) (inner : List Held → List Reading → List MonType → Code) (n : ℕ) → 1 ≤ n → (held : List Held) (known : List Reading) (rs : List MonType)
+        → ((held : List Held) (known : List Reading) (rs : List MonType) → depth_of_all (inner held known rs).stmts ≤ n + n)
+        → depth_of_all (guards_code p bound plan q gs inner held known rs).stmts ≤ (tokens_of_guards gs + n) + (tokens_of_guards gs + n)
+    guards_deep q NoGuard inner n some held known rs h = let d = h held known rs in omega (arith, d)
+    guards_deep q (Guarded a y ys below b rest) inner n some held known rs h =
+        let u = term_code p bound plan a held known rs in
+        let v = term_code p bound plan b held known u.used in
+        let k = type_of_width (wider (width_of a) (width_of b)) in
+        let more = known ++ (sure_readings_of_term a ++ sure_readings_of_term b) in
+        let within = λ (names : List Held) (js : List MonType). guards_code p bound plan q rest inner names more js in
+        let c = bounded_code q below k (in_type (type_of a) k u.value) (in_type (type_of b) k v.value) (range_of a).lo (lowered below (range_of b).hi) (y ∷ ys) within held v.used in
+        let ta = tokens_of_term a in
+        let tb = tokens_of_term b in
+        let m = tokens_of_guards rest + n in
+        let d = bounded_deep q below k (in_type (type_of a) k u.value) (in_type (type_of b) k v.value) (range_of a).lo (lowered below (range_of b).hi) (y ∷ ys) within held v.used (suc (m + m)) (omega (arith, some))
+        (λ names js. let x = guards_deep q rest inner n some names more js h in omega (arith, x)) in
+        branch_deep I32 (relation_code (bounds_relation below) a b u v) c (truth_code (undecided q) c.used) (ta + tb) (length ys + suc (length ys) + ta + tb + m) 1 ((2 * length (y ∷ ys) + ta + tb + tokens_of_guards rest) + n)
+        (relation_deep a (bounds_relation below) b u v ta tb (ta + tb) (term_deep a held known rs) (term_deep b held known u.used) (omega arith) (omega arith)) (omega (arith, d, some_term a, some_term b)) (truth_deep (undecided q) c.used)
+        (omega (arith, some))
+        (omega arith) (omega (arith, some_term a, some_term b)) (omega (arith, some))

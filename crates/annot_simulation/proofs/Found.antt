@@ -2,6 +2,7 @@
 use Rattle.std.proofs.Common.{◌≡◌, ℕ, Bool, true, false, cond, nat_eq, List, [], ◌∷◌, ◌++◌, Option, Some, None, option_map, refl, sym, ap, ◌∙◌, subst, ◌⊎◌, inl, inr}
 use Rattle.std.proofs.lemmas.Bool.{eq-eqb}
 use Rattle.c_syntax.specs.declared.expression.Use.{Use}
+use Rattle.c_syntax.specs.declared.place.Place.{Place}
 use Rattle.c_syntax.specs.declared.logic.BlockFact.{BlockFact}
 use Rattle.c_syntax.specs.declared.logic.BlockFact.TheVariants.{BaseAddr, BlockLength, Offset}
 use Rattle.c_syntax.specs.declared.logic.Label.{Label}
@@ -11,22 +12,23 @@ use Rattle.c_syntax.specs.Ctypes as ctype
 use Rattle.c_syntax.specs.Formulas.{CastType}
 use Rattle.c_syntax.specs.Logic.{LogicTerm, Number, Letter, Variable, Unary, Binary, Cast, Choice, Named, At, Null, Deref, Member, Address, Moved, Difference}
 use Rattle.c_syntax.specs.Logic.{Told, Links, NoLink, Linked, Zone, Object, Elements, Zones, NoZone, Another, Predicate, Truth, NonZero, Chain, Not}
-use Rattle.c_syntax.specs.Logic.{Connected, Branch, Quantified, Asks, Separated}
-use Rattle.c_model.specs.AnnotationSights.{AnnotationSight, ClauseSight, InBody, AtEntry, AtEnd, UnderLabel, beginning, marked, sight_at, under_label}
+use Rattle.c_syntax.specs.Logic.{Connected, Branch, Quantified, Asks, Separated, Binder, Guards, NoGuard, Guarded}
+use Rattle.c_model.specs.AnnotationSights.{AnnotationSight, ClauseSight, InBody, AtEntry, AtEnd, UnderLabel, beginning, marked, sight_at, under_label, with_binders}
 use Rattle.c_model.specs.ExpressionTyping.{Entity, AnObject, AnEnumerator, Object as CObject, Sight, entity_named, has_name, or_else}
 use Rattle.c_model.specs.PredicateTyping.{ValueSort, AnInteger, APointer, sort_of, sort_of_type, sort_of_term, told_type}
 use Rattle.c_model.specs.State.{Scope, find}
 use Rattle.c_model.specs.TypedPredicates.{IsAlignment, IsIntegerTerm, PointsTo, IsPointerTerm, IsPlace, IsZeroTerm, AreRelated, IsCast, IsCastType, OfInteger, OfPointer}
-use Rattle.c_model.specs.TypedPredicates.{IsChoice, BetweenIntegers, BetweenPointers, IsResult, TermTyped, LinksTyped, ZoneTyped, ZonesTyped, PredicateTyped}
+use Rattle.c_model.specs.TypedPredicates.{AreBinders, GuardsTyped, IsBinder, IsChoice, BetweenIntegers, BetweenPointers, IsResult, TermTyped, LinksTyped, ZoneTyped, ZonesTyped, PredicateTyped}
 use Rattle.c_model.specs.TypedTrees.{Denotes}
 use Rattle.mon_syntax.specs.Arithmetic.{access_bytes}
 use Rattle.mem_preds.specs.Questions.{size_of}
 use Rattle.c_simulation.specs.Keeping.{Kept, is_pointer_sort, is_pointer_term}
-use Rattle.annot_simulation.specs.Beside.{ArePlanned, ResultSorted}
-use Rattle.annot_simulation.specs.Held.{Sorted, sort_held}
-use Rattle.annot_simulation.specs.Plan.{Entry, IsIn, in_links, in_predicate, in_term, in_zone, in_zones}
+use Rattle.annot_simulation.specs.Beside.{AreApart, ArePlanned, BindersApart, BindersSorted, GuardsApart, NoNames, ResultSorted}
+use Rattle.annot_simulation.specs.Held.{Sorted, sort_held, sorts_within}
+use Rattle.annot_simulation.specs.Plan.{Entry, IsIn, in_guards, in_links, in_predicate, in_term, in_zone, in_zones}
 use Rattle.annot_simulation.specs.Does.{HasIntegers, HasPointers, GivesPointers, IsNumberFact, IsPointerFact, IsZero, AreSides, found_by, SideFound}
-use Rattle.annot_simulation.specs.Does.{Planned, TermFound, PointerFound, PlaceFound, ZoneFound, ZonesFound, LinksFound, PredicateFound}
+use Rattle.annot_simulation.specs.Does.{Planned, TermFound, PointerFound, PlaceFound, ZoneFound, ZonesFound, LinksFound, PredicateFound, GuardsFound}
+use Rattle.annot_simulation.proofs.BinderNames.{bound_within, part, quiet_apart, result_apart}
 
 -- ---- types by their sorts
 
@@ -185,120 +187,179 @@ right3 P a b c h = right P b c (right P a (b ++ c) h)
 pub record Stand (s : AnnotationSight) (scope : Scope) (ks : List Kept) (ns : Sorted) (P : Entry → Type 0) : Type 0 where
   pub denoted : (x : Use) (t : PlainType) → Denotes s.here x t → (number : ℕ) × (find x.decl scope ≡ Some number)
   pub named : (t : Option PlainType) (x : Use) → IsResult s.clause t x → sort_held x.decl ns ≡ Some (is_pointer_sort (sort_of t))
+  pub binder : BindersSorted s.binders ns
   pub number_kept : (l : Option ℕ) (a : LogicTerm) (u : AnnotationSight) → sight_at s (past_label l) ≡ Some u → TermTyped u a → IsIntegerTerm a → P (l, a)
       → Planned ks l a × (there : Scope) × TermFound [] there [] a
   pub pointer_kept : (l : Option ℕ) (a : LogicTerm) (u : AnnotationSight) → sight_at s (past_label l) ≡ Some u → TermTyped u a → (v : PlainType) → PointsTo v a → P (l, a)
       → Planned ks l a × (is_pointer_term a ≡ true) × (there : Scope) × PointerFound [] there [] a
 
-module _ (s : AnnotationSight) (scope : Scope) (ks : List Kept) (ns : Sorted) (P : Entry → Type 0) (stand : Stand s scope ks ns P) where
+-- `\result`, or a binder, which is a number
+name_sorted : (s : AnnotationSight) (scope : Scope) (ks : List Kept) (ns : Sorted) (P : Entry → Type 0) → Stand s scope ks ns P → (t : Option PlainType) (x : Use) → IsResult s.clause t x ⊎ IsBinder s.binders t x
+    → sort_held x.decl ns ≡ Some (is_pointer_sort (sort_of t))
+name_sorted s scope ks ns P stand t x (inl i) = stand.named t x i
+name_sorted s scope ks ns P stand t x (inr b) = stand.binder x.decl b.1 ∙ ap (λ t. Some (is_pointer_sort (sort_of t))) (sym b.0)
+
+-- what stands within binders
+within_stands : (s : AnnotationSight) (scope : Scope) (ks : List Kept) (ns : Sorted) (P : Entry → Type 0) (ys : List Binder) (bs : List (Place × ℕ)) → AreBinders ys bs → NoNames s.clause ⊎ AreApart ys → Stand s scope ks ns P
+    → Stand (with_binders s bs) scope ks (sorts_within ys ns) P
+within_stands s scope ks ns P ys bs are apart stand = record {
+  denoted = stand.denoted;
+  named = λ t x i. held_so apart t x i;
+  binder = λ x i. bound_within ns ys bs s.binders x are stand.binder i;
+  number_kept = λ l a u e q i p. number l a u e q i p;
+  pointer_kept = λ l a u e q v i p. pointer l a u e q v i p;
+}
+  where
+    held_so : NoNames s.clause ⊎ AreApart ys → (t : Option PlainType) (x : Use) → IsResult s.clause t x → sort_held x.decl (sorts_within ys ns) ≡ Some (is_pointer_sort (sort_of t))
+    held_so (inl none) t x i = absurd (none t x i)
+    held_so (inr far) t x i = by_clause s.clause i
+      where
+        by_clause : (c : ClauseSight) → IsResult c t x → sort_held x.decl (sorts_within ys ns) ≡ Some (is_pointer_sort (sort_of t))
+        by_clause (AtEnd formals u) j = ap (λ n. sort_held n (sorts_within ys ns)) j.0 ∙ result_apart ys ns far ∙ ap (λ n. sort_held n ns) (sym j.0) ∙ stand.named t x i
+        by_clause (InBody v) j = absurd j
+        by_clause AtEntry j = absurd j
+        by_clause (UnderLabel formals) j = absurd j
+
+    number : (l : Option ℕ) (a : LogicTerm) (u : AnnotationSight) → sight_at (with_binders s bs) (past_label l) ≡ Some u → TermTyped u a → IsIntegerTerm a → P (l, a) → Planned ks l a × (there : Scope) × TermFound [] there [] a
+    number None a u e q i p = stand.number_kept None a u e q i p
+    number (Some l) a u e q i p = stand.number_kept (Some l) a u e q i p
+
+    pointer : (l : Option ℕ) (a : LogicTerm) (u : AnnotationSight) → sight_at (with_binders s bs) (past_label l) ≡ Some u → TermTyped u a → (v : PlainType) → PointsTo v a → P (l, a)
+        → Planned ks l a × (is_pointer_term a ≡ true) × (there : Scope) × PointerFound [] there [] a
+    pointer None a u e q v i p = stand.pointer_kept None a u e q v i p
+    pointer (Some l) a u e q v i p = stand.pointer_kept (Some l) a u e q v i p
+
+module _ (scope : Scope) (ks : List Kept) (P : Entry → Type 0) where
   -- the same place
-  here_typed : (a : LogicTerm) (u : AnnotationSight) → Some s ≡ Some u → TermTyped u a → TermTyped s a
-  here_typed a u e q = let same : s ≡ u = cc in subst (λ v. TermTyped v a) (sym same) q
+  here_typed : (s : AnnotationSight) (a : LogicTerm) (u : AnnotationSight) → Some s ≡ Some u → TermTyped u a → TermTyped s a
+  here_typed s a u e q = let same : s ≡ u = cc in subst (λ v. TermTyped v a) (sym same) q
 
   mutual
-    pub term_found : (t : LogicTerm) → TermTyped s t → EachOf P (in_term t) → IsIntegerTerm t → TermFound ks scope ns t
-    term_found (Number at c r z) q h i = tt
-    term_found (Letter at c r z) q h i = tt
-    term_found (Variable at c r x) q h i = let d = stand.denoted x q.ctype q.denotes in (given_integer c q.ctype q.is i, d.0, d.1)
-    term_found (Unary at c r op a) q h i = term_found a q.3 h q.2
-    term_found (Binary at c r op a b) q h i = (term_found a q.3 (left P (in_term a) (in_term b) h) q.1, term_found b q.4 (right P (in_term a) (in_term b) h) q.2)
-    term_found (Cast at c r to a) q h i =
+    pub term_found : (ns : Sorted) (s : AnnotationSight) (stand : Stand s scope ks ns P) → (t : LogicTerm) → TermTyped s t → EachOf P (in_term t) → IsIntegerTerm t → TermFound ks scope ns t
+    term_found ns s stand (Number at c r z) q h i = tt
+    term_found ns s stand (Letter at c r z) q h i = tt
+    term_found ns s stand (Variable at c r x) q h i = let d = stand.denoted x q.ctype q.denotes in (given_integer c q.ctype q.is i, d.0, d.1)
+    term_found ns s stand (Unary at c r op a) q h i = term_found ns s stand a q.3 h q.2
+    term_found ns s stand (Binary at c r op a b) q h i = (term_found ns s stand a q.3 (left P (in_term a) (in_term b) h) q.1, term_found ns s stand b q.4 (right P (in_term a) (in_term b) h) q.2)
+    term_found ns s stand (Cast at c r to a) q h i =
         let k = cast_integer c to (sort_of_term a) q.0 i in
-        (k.0, term_found a q.1 h k.1)
-    term_found (Choice at c r p a b) q h i =
-        let k = choice_integer c (sort_of_term a) (sort_of_term b) q.0 i in
-        (predicate_found p q.1 (left P (in_predicate p) (in_term a ++ in_term b) h), term_found a q.2 (right2 P (in_predicate p) (in_term a) (in_term b) h) k.0, term_found b q.3 (right3 P (in_predicate p) (in_term a) (in_term b) h) k.1)
-    term_found (Named at c r x) q h i = stand.named c x q ∙ ap (λ k. Some (is_pointer_sort k)) i
-    term_found (At at c r Here a) q h i = term_found a (here_typed a q.0 q.1 q.3) h (sym (ap sort_of q.2) ∙ i)
-    term_found (At at c r Pre a) q h i = stand.number_kept None a q.0 q.1 q.3 (sym (ap sort_of q.2) ∙ i) (h (None, a) (inl refl))
-    term_found (At at c r (Marked l) a) q h i = stand.number_kept (Some l) a q.0 q.1 q.3 (sym (ap sort_of q.2) ∙ i) (h (Some l, a) (inl refl))
-    term_found (Null at c r) q h i = absurd (no_integer c Void q i)
-    term_found (Deref at c r a) q h i = (given_integer c q.0 q.1 i, pointer_found a q.3 h q.0 q.2)
-    term_found (Member at c r d a) q h i = (given_integer c q.0 q.1 i, place_found a q.5 h q.4)
-    term_found (Address at c r a) q h i = absurd (no_integer c q.0 q.1 i)
-    term_found (Moved at c r op m a b) q h i = absurd (no_integer c q.0 q.1 i)
-    term_found (Difference at c r m a b) q h i = (q.5.0, pointer_found a q.3 (left P (in_term a) (in_term b) h) q.1.0 q.1.1, pointer_found b q.4 (right P (in_term a) (in_term b) h) q.2.0 q.2.1)
-    term_found (Told at c r f a) q h i = (told_number c f q.0 i, pointer_found a q.2 h q.1.0 q.1.1)
+        (k.0, term_found ns s stand a q.1 h k.1)
+    term_found ns s stand (Choice at c r p a b) q h i =
+        let k = choice_integer c (sort_of_term a) (sort_of_term b) q.0 i in (
+          q.1,
+          predicate_found ns s stand p q.2 (inr (quiet_apart p q.1)) (left P (in_predicate p) (in_term a ++ in_term b) h),
+          term_found ns s stand a q.3 (right2 P (in_predicate p) (in_term a) (in_term b) h) k.0,
+          term_found ns s stand b q.4
+              (right3 P (in_predicate p) (in_term a) (in_term b) h) k.1,
+        )
+    term_found ns s stand (Named at c r x) q h i = name_sorted s scope ks ns P stand c x q ∙ ap (λ k. Some (is_pointer_sort k)) i
+    term_found ns s stand (At at c r Here a) q h i = term_found ns s stand a (here_typed s a q.0 q.1 q.3) h (sym (ap sort_of q.2) ∙ i)
+    term_found ns s stand (At at c r Pre a) q h i = stand.number_kept None a q.0 q.1 q.3 (sym (ap sort_of q.2) ∙ i) (h (None, a) (inl refl))
+    term_found ns s stand (At at c r (Marked l) a) q h i = stand.number_kept (Some l) a q.0 q.1 q.3 (sym (ap sort_of q.2) ∙ i) (h (Some l, a) (inl refl))
+    term_found ns s stand (Null at c r) q h i = absurd (no_integer c Void q i)
+    term_found ns s stand (Deref at c r a) q h i = (given_integer c q.0 q.1 i, pointer_found ns s stand a q.3 h q.0 q.2)
+    term_found ns s stand (Member at c r d a) q h i = (given_integer c q.0 q.1 i, place_found ns s stand a q.5 h q.4)
+    term_found ns s stand (Address at c r a) q h i = absurd (no_integer c q.0 q.1 i)
+    term_found ns s stand (Moved at c r op m a b) q h i = absurd (no_integer c q.0 q.1 i)
+    term_found ns s stand (Difference at c r m a b) q h i = (q.5.0, pointer_found ns s stand a q.3 (left P (in_term a) (in_term b) h) q.1.0 q.1.1, pointer_found ns s stand b q.4 (right P (in_term a) (in_term b) h) q.2.0 q.2.1)
+    term_found ns s stand (Told at c r f a) q h i = (told_number c f q.0 i, pointer_found ns s stand a q.2 h q.1.0 q.1.1)
 
-    pub pointer_found : (t : LogicTerm) → TermTyped s t → EachOf P (in_term t) → (u : PlainType) → PointsTo u t → PointerFound ks scope ns t
-    pointer_found (Number at c r z) q h u i = absurd (no_pointer c u q i)
-    pointer_found (Letter at c r z) q h u i = absurd (no_pointer c u q i)
-    pointer_found (Variable at c r x) q h u i = let d = stand.denoted x q.ctype q.denotes in (given_pointer c q.ctype u q.is i, d.0, d.1)
-    pointer_found (Unary at c r op a) q h u i = absurd (no_pointer c u q.0 i)
-    pointer_found (Binary at c r op a b) q h u i = absurd (no_pointer c u q.0 i)
-    pointer_found (Cast at c r to a) q h u i =
+    pub pointer_found : (ns : Sorted) (s : AnnotationSight) (stand : Stand s scope ks ns P) → (t : LogicTerm) → TermTyped s t → EachOf P (in_term t) → (u : PlainType) → PointsTo u t → PointerFound ks scope ns t
+    pointer_found ns s stand (Number at c r z) q h u i = absurd (no_pointer c u q i)
+    pointer_found ns s stand (Letter at c r z) q h u i = absurd (no_pointer c u q i)
+    pointer_found ns s stand (Variable at c r x) q h u i = let d = stand.denoted x q.ctype q.denotes in (given_pointer c q.ctype u q.is i, d.0, d.1)
+    pointer_found ns s stand (Unary at c r op a) q h u i = absurd (no_pointer c u q.0 i)
+    pointer_found ns s stand (Binary at c r op a b) q h u i = absurd (no_pointer c u q.0 i)
+    pointer_found ns s stand (Cast at c r to a) q h u i =
         let k = cast_pointer c to (sort_of_term a) u q.0 i in
-        (k.0, pointer_found a q.1 h k.1 k.2)
-    pointer_found (Choice at c r p a b) q h u i =
+        (k.0, pointer_found ns s stand a q.1 h k.1 k.2)
+    pointer_found ns s stand (Choice at c r p a b) q h u i =
         let k = choice_pointer c (sort_of_term a) (sort_of_term b) u q.0 i in (
-          predicate_found p q.1 (left P (in_predicate p) (in_term a ++ in_term b) h),
-          pointer_found a q.2 (right2 P (in_predicate p) (in_term a) (in_term b) h) k.0.0 k.0.1,
-          pointer_found b q.3
+          q.1,
+          predicate_found ns s stand p q.2 (inr (quiet_apart p q.1)) (left P (in_predicate p) (in_term a ++ in_term b) h),
+          pointer_found ns s stand a q.3 (right2 P (in_predicate p) (in_term a) (in_term b) h) k.0.0 k.0.1,
+          pointer_found ns s stand b q.4
               (right3 P (in_predicate p) (in_term a) (in_term b) h) k.1.0 k.1.1,
         )
-    pointer_found (Named at c r x) q h u i = stand.named c x q ∙ ap (λ k. Some (is_pointer_sort k)) i
-    pointer_found (At at c r Here a) q h u i = pointer_found a (here_typed a q.0 q.1 q.3) h u (sym (ap sort_of q.2) ∙ i)
-    pointer_found (At at c r Pre a) q h u i = stand.pointer_kept None a q.0 q.1 q.3 u (sym (ap sort_of q.2) ∙ i) (h (None, a) (inl refl))
-    pointer_found (At at c r (Marked l) a) q h u i = stand.pointer_kept (Some l) a q.0 q.1 q.3 u (sym (ap sort_of q.2) ∙ i) (h (Some l, a) (inl refl))
-    pointer_found (Null at c r) q h u i = tt
-    pointer_found (Deref at c r a) q h u i = (given_pointer c q.0 u q.1 i, pointer_found a q.3 h q.0 q.2)
-    pointer_found (Member at c r d a) q h u i = (given_pointer c q.0 u q.1 i, place_found a q.5 h q.4)
-    pointer_found (Address at c r a) q h u i = place_found a q.4 h q.3
-    pointer_found (Moved at c r op m a b) q h u i = (pointer_found a q.4 (left P (in_term a) (in_term b) h) q.0 q.2, term_found b q.5 (right P (in_term a) (in_term b) h) q.3)
-    pointer_found (Difference at c r m a b) q h u i = absurd (no_pointer c u q.0 i)
-    pointer_found (Told at c r f a) q h u i = (told_pointer c f u q.0 i, pointer_found a q.2 h q.1.0 q.1.1)
+    pointer_found ns s stand (Named at c r x) q h u i = name_sorted s scope ks ns P stand c x q ∙ ap (λ k. Some (is_pointer_sort k)) i
+    pointer_found ns s stand (At at c r Here a) q h u i = pointer_found ns s stand a (here_typed s a q.0 q.1 q.3) h u (sym (ap sort_of q.2) ∙ i)
+    pointer_found ns s stand (At at c r Pre a) q h u i = stand.pointer_kept None a q.0 q.1 q.3 u (sym (ap sort_of q.2) ∙ i) (h (None, a) (inl refl))
+    pointer_found ns s stand (At at c r (Marked l) a) q h u i = stand.pointer_kept (Some l) a q.0 q.1 q.3 u (sym (ap sort_of q.2) ∙ i) (h (Some l, a) (inl refl))
+    pointer_found ns s stand (Null at c r) q h u i = tt
+    pointer_found ns s stand (Deref at c r a) q h u i = (given_pointer c q.0 u q.1 i, pointer_found ns s stand a q.3 h q.0 q.2)
+    pointer_found ns s stand (Member at c r d a) q h u i = (given_pointer c q.0 u q.1 i, place_found ns s stand a q.5 h q.4)
+    pointer_found ns s stand (Address at c r a) q h u i = place_found ns s stand a q.4 h q.3
+    pointer_found ns s stand (Moved at c r op m a b) q h u i = (pointer_found ns s stand a q.4 (left P (in_term a) (in_term b) h) q.0 q.2, term_found ns s stand b q.5 (right P (in_term a) (in_term b) h) q.3)
+    pointer_found ns s stand (Difference at c r m a b) q h u i = absurd (no_pointer c u q.0 i)
+    pointer_found ns s stand (Told at c r f a) q h u i = (told_pointer c f u q.0 i, pointer_found ns s stand a q.2 h q.1.0 q.1.1)
 
-    place_found : (t : LogicTerm) → TermTyped s t → EachOf P (in_term t) → IsPlace t → PlaceFound ks scope ns t
-    place_found (Variable at c r x) q h i = stand.denoted x q.ctype q.denotes
-    place_found (Deref at c r a) q h i = pointer_found a q.3 h q.0 q.2
-    place_found (Member at c r d a) q h i = place_found a q.5 h q.4
-    place_found _ q h i = absurd i
+    place_found : (ns : Sorted) (s : AnnotationSight) (stand : Stand s scope ks ns P) → (t : LogicTerm) → TermTyped s t → EachOf P (in_term t) → IsPlace t → PlaceFound ks scope ns t
+    place_found ns s stand (Variable at c r x) q h i = stand.denoted x q.ctype q.denotes
+    place_found ns s stand (Deref at c r a) q h i = pointer_found ns s stand a q.3 h q.0 q.2
+    place_found ns s stand (Member at c r d a) q h i = place_found ns s stand a q.5 h q.4
+    place_found ns s stand _ q h i = absurd i
 
-    zone_found : (z : Zone) → ZoneTyped s z → EachOf P (in_zone z) → ZoneFound ks scope ns z
-    zone_found (Object at m a t) q h = (alignment_is a q.3, pointer_found t q.1 h q.0.0 q.0.1)
-    zone_found (Elements at m a t lo hi) q h = (
+    zone_found : (ns : Sorted) (s : AnnotationSight) (stand : Stand s scope ks ns P) → (z : Zone) → ZoneTyped s z → EachOf P (in_zone z) → ZoneFound ks scope ns z
+    zone_found ns s stand (Object at m a t) q h = (alignment_is a q.3, pointer_found ns s stand t q.1 h q.0.0 q.0.1)
+    zone_found ns s stand (Elements at m a t lo hi) q h = (
       alignment_is a q.7,
-      pointer_found t q.3 (left P (in_term t) (in_term lo ++ in_term hi) h) q.0.0 q.0.1,
-      term_found lo q.4 (right2 P (in_term t) (in_term lo) (in_term hi) h) q.1,
-      term_found hi q.5 (right3 P (in_term t) (in_term lo) (in_term hi) h) q.2,
+      pointer_found ns s stand t q.3 (left P (in_term t) (in_term lo ++ in_term hi) h) q.0.0 q.0.1,
+      term_found ns s stand lo q.4 (right2 P (in_term t) (in_term lo) (in_term hi) h) q.1,
+      term_found ns s stand hi q.5 (right3 P (in_term t) (in_term lo) (in_term hi) h) q.2,
     )
 
-    zones_found : (zs : Zones) → ZonesTyped s zs → EachOf P (in_zones zs) → ZonesFound ks scope ns zs
-    zones_found NoZone q h = tt
-    zones_found (Another z rest) q h = (zone_found z q.0 (left P (in_zone z) (in_zones rest) h), zones_found rest q.1 (right P (in_zone z) (in_zones rest) h))
+    zones_found : (ns : Sorted) (s : AnnotationSight) (stand : Stand s scope ks ns P) → (zs : Zones) → ZonesTyped s zs → EachOf P (in_zones zs) → ZonesFound ks scope ns zs
+    zones_found ns s stand NoZone q h = tt
+    zones_found ns s stand (Another z rest) q h = (zone_found ns s stand z q.0 (left P (in_zone z) (in_zones rest) h), zones_found ns s stand rest q.1 (right P (in_zone z) (in_zones rest) h))
 
-    links_found : (t : LogicTerm) → TermTyped s t → (l : Links) → LinksTyped s t l → EachOf P (in_links l) → LinksFound ks scope ns t l
-    links_found t tq NoLink q h = tt
-    links_found t tq (Linked at r u rest) q h =
+    links_found : (ns : Sorted) (s : AnnotationSight) (stand : Stand s scope ks ns P) → (t : LogicTerm) → TermTyped s t → (l : Links) → LinksTyped s t l → EachOf P (in_links l) → LinksFound ks scope ns t l
+    links_found ns s stand t tq NoLink q h = tt
+    links_found ns s stand t tq (Linked at r u rest) q h =
         let k = related_sides s t u tq q.1 q.0 in
         let hu = left P (in_term u) (in_links rest) h in
-        (k.2, side_by_sort ks scope ns u (term_found u q.1 hu) (pointer_found u q.1 hu) k.1, links_found u q.1 rest q.2 (right P (in_term u) (in_links rest) h))
+        (k.2, side_by_sort ks scope ns u (term_found ns s stand u q.1 hu) (pointer_found ns s stand u q.1 hu) k.1, links_found ns s stand u q.1 rest q.2 (right P (in_term u) (in_links rest) h))
 
-    pub predicate_found : (p : Predicate) → PredicateTyped s p → EachOf P (in_predicate p) → PredicateFound ks scope ns p
-    predicate_found (Truth at b) q h = tt
-    predicate_found (NonZero at t) q h = term_found t q.1 h q.0
-    predicate_found (Chain at t NoLink) q h = absurd q.2
-    predicate_found (Chain at t (Linked at2 r u rest)) q h =
+    pub predicate_found : (ns : Sorted) (s : AnnotationSight) (stand : Stand s scope ks ns P) → (p : Predicate) → PredicateTyped s p → NoNames s.clause ⊎ BindersApart p → EachOf P (in_predicate p) → PredicateFound ks scope ns p
+    predicate_found ns s stand (Truth at b) q apart h = tt
+    predicate_found ns s stand (NonZero at t) q apart h = term_found ns s stand t q.1 h q.0
+    predicate_found ns s stand (Chain at t NoLink) q apart h = absurd q.2
+    predicate_found ns s stand (Chain at t (Linked at2 r u rest)) q apart h =
         let k = related_sides s t u q.0 q.1.1 q.1.0 in
         let ht = left P (in_term t) (in_term u ++ in_links rest) h in
         let hu = right2 P (in_term t) (in_term u) (in_links rest) h in (
-          side_by_sort ks scope ns t (term_found t q.0 ht) (pointer_found t q.0 ht) k.0,
+          side_by_sort ks scope ns t (term_found ns s stand t q.0 ht) (pointer_found ns s stand t q.0 ht) k.0,
           (
             k.2,
-            side_by_sort ks scope ns u (term_found u q.1.1 hu) (pointer_found u q.1.1 hu) k.1,
-            links_found u q.1.1 rest q.1.2 (right3 P (in_term t) (in_term u) (in_links rest) h),
+            side_by_sort ks scope ns u (term_found ns s stand u q.1.1 hu) (pointer_found ns s stand u q.1.1 hu) k.1,
+            links_found ns s stand u q.1.1 rest q.1.2 (right3 P (in_term t) (in_term u) (in_links rest) h),
           ),
         )
-    predicate_found (Not at p) q h = predicate_found p q h
-    predicate_found (Connected at c a b) q h = (predicate_found a q.0 (left P (in_predicate a) (in_predicate b) h), predicate_found b q.1 (right P (in_predicate a) (in_predicate b) h))
-    predicate_found (Branch at c a b) q h = (
-      predicate_found c q.0 (left P (in_predicate c) (in_predicate a ++ in_predicate b) h),
-      predicate_found a q.1 (right2 P (in_predicate c) (in_predicate a) (in_predicate b) h),
-      predicate_found b q.2 (right3 P (in_predicate c) (in_predicate a) (in_predicate b) h),
+    predicate_found ns s stand (Not at p) q apart h = predicate_found ns s stand p q apart h
+    predicate_found ns s stand (Connected at c a b) q apart h = (
+      predicate_found ns s stand a q.0 (part (λ h. h.0) apart) (left P (in_predicate a) (in_predicate b) h),
+      predicate_found ns s stand b q.1 (part (λ h. h.1) apart)
+          (right P (in_predicate a) (in_predicate b) h),
     )
-    predicate_found (Quantified at k gs p) q h = absurd q
-    predicate_found (Asks at f z) q h = zone_found z q h
-    predicate_found (Separated at zs) q h = zones_found zs q h
+    predicate_found ns s stand (Branch at c a b) q apart h = (
+      predicate_found ns s stand c q.0 (part (λ h. h.0) apart) (left P (in_predicate c) (in_predicate a ++ in_predicate b) h),
+      predicate_found ns s stand a q.1 (part (λ h. h.1) apart) (right2 P (in_predicate c) (in_predicate a) (in_predicate b) h),
+      predicate_found ns s stand b q.2 (part (λ h. h.2) apart) (right3 P (in_predicate c) (in_predicate a) (in_predicate b) h),
+    )
+    predicate_found ns s stand (Quantified at k gs p) q apart h =
+        let inside = λ (ns : Sorted) (s : AnnotationSight) (stand : Stand s scope ks ns P) (q : PredicateTyped s p) (apart : NoNames s.clause ⊎ BindersApart p). predicate_found ns s stand p q apart (right P (in_guards gs) (in_predicate p) h) in
+        guards_found ns s stand gs p q apart (left P (in_guards gs) (in_predicate p) h) inside
+    predicate_found ns s stand (Asks at f z) q apart h = zone_found ns s stand z q h
+    predicate_found ns s stand (Separated at zs) q apart h = zones_found ns s stand zs q h
+
+    guards_found : (ns : Sorted) (s : AnnotationSight) (stand : Stand s scope ks ns P) → (gs : Guards) (p : Predicate) → GuardsTyped s gs (λ u. PredicateTyped u p) → NoNames s.clause ⊎ (GuardsApart gs × BindersApart p) → EachOf P (in_guards gs)
+        → ((ns : Sorted) (s : AnnotationSight) → Stand s scope ks ns P → PredicateTyped s p → NoNames s.clause ⊎ BindersApart p → PredicateFound ks scope ns p) → GuardsFound ks scope ns gs (λ ns. PredicateFound ks scope ns p)
+    guards_found ns s stand NoGuard p q apart h inside = inside ns s stand q (part (λ h. h.1) apart)
+    guards_found ns s stand (Guarded a y ys below b rest) p q apart h inside = (
+      term_found ns s stand a q.2 (left P (in_term a) (in_term b ++ in_guards rest) h) q.0,
+      term_found ns s stand b q.3 (right2 P (in_term a) (in_term b) (in_guards rest) h) q.1,
+      guards_found (sorts_within (y ∷ ys) ns) (with_binders s q.4) (within_stands s scope ks ns P (y ∷ ys) q.4 q.5 (part (λ h. h.0.0) apart) stand) rest p q.6 (part (λ h. (h.0.1, h.1)) apart)
+          (right3 P (in_term a) (in_term b) (in_guards rest) h) inside,
+    )
 
 -- ---- what stands under a label
 
@@ -336,6 +397,7 @@ under_stands : (s : AnnotationSight) (v : Sight) (scope : Scope) → ((x : Use) 
 under_stands s v scope denoted = record {
   denoted = denoted;
   named = λ t x i. absurd i;
+  binder = λ x i. absurd i;
   number_kept = λ l a u e q i p. absurd (no_past l u e);
   pointer_kept = λ l a u e q w i p. absurd (no_past l u e);
 }
@@ -353,7 +415,7 @@ pub under_found : (s : AnnotationSight) (v : Sight) (scope : Scope) → ((x : Us
 under_found s v scope denoted a q i =
     let w = under_label s v in
     let stand = under_stands s v scope denoted in
-    side_by_sort [] scope [] a (term_found w scope [] [] (λ x. Unit {0}) stand a q (λ x i. tt)) (pointer_found w scope [] [] (λ x. Unit {0}) stand a q (λ x i. tt)) i
+    side_by_sort [] scope [] a (term_found scope [] (λ x. Unit {0}) [] w stand a q (λ x i. tt)) (pointer_found scope [] (λ x. Unit {0}) [] w stand a q (λ x i. tt)) i
 
 -- what a term under a label sees
 under_is : (s : AnnotationSight) (l : Option ℕ) (u : AnnotationSight) → sight_at s (past_label l) ≡ Some u → (v : Sight) × (u ≡ under_label s v)
@@ -374,28 +436,36 @@ pub kept_number : (ks : List Kept) (s : AnnotationSight) (l : Option ℕ) (a : L
 kept_number ks s l a u e q i p =
     let v = under_is s l u e in
     let w = under_label s v.0 in
-    (p, everything v.0.entities, term_found w (everything v.0.entities) [] [] (λ x. Unit {0}) (under_stands s v.0 (everything v.0.entities) (denoted_everywhere v.0)) a (subst (λ u. TermTyped u a) v.1 q) (λ x i. tt) i)
+    (p, everything v.0.entities, term_found (everything v.0.entities) [] (λ x. Unit {0}) [] w (under_stands s v.0 (everything v.0.entities) (denoted_everywhere v.0)) a (subst (λ u. TermTyped u a) v.1 q) (λ x i. tt) i)
 
 pub kept_pointer : (ks : List Kept) (s : AnnotationSight) (l : Option ℕ) (a : LogicTerm) (u : AnnotationSight) → sight_at s (past_label l) ≡ Some u → TermTyped u a → (v : PlainType) → PointsTo v a → Planned ks l a
     → Planned ks l a × (is_pointer_term a ≡ true) × (there : Scope) × PointerFound [] there [] a
 kept_pointer ks s l a u e q x i p =
     let v = under_is s l u e in
     let w = under_label s v.0 in
-    (p, ap is_pointer_sort i, everything v.0.entities, pointer_found w (everything v.0.entities) [] [] (λ x. Unit {0}) (under_stands s v.0 (everything v.0.entities) (denoted_everywhere v.0)) a (subst (λ u. TermTyped u a) v.1 q) (λ x i. tt) x i)
+    (p, ap is_pointer_sort i, everything v.0.entities, pointer_found (everything v.0.entities) [] (λ x. Unit {0}) [] w (under_stands s v.0 (everything v.0.entities) (denoted_everywhere v.0)) a (subst (λ u. TermTyped u a) v.1 q) (λ x i. tt) x i)
 
--- where objects have blocks, `\result` is held and terms at labels are planned
-pub typed_found : (s : AnnotationSight) (scope : Scope) (ks : List Kept) (ns : Sorted) → ((x : Use) (t : PlainType) → Denotes s.here x t → (number : ℕ) × (find x.decl scope ≡ Some number)) → ResultSorted s.clause ns
-    → (p : Predicate) → ArePlanned ks (in_predicate p) → PredicateTyped s p → PredicateFound ks scope ns p
-typed_found s scope ks ns denoted result p planned q =
-    predicate_found s scope ks ns (λ x. Planned ks x.0 x.1) (record {
-      denoted = denoted;
-      named = λ t x i. by s.clause result t x i;
-      number_kept = λ l a u e q i p. kept_number ks s l a u e q i p;
-      pointer_kept = λ l a u e q v i p. kept_pointer ks s l a u e q v i p;
-    }) p q planned
+-- where objects have blocks, names are held and terms at labels are planned
+planned_stand : (s : AnnotationSight) (scope : Scope) (ks : List Kept) (ns : Sorted) → ((x : Use) (t : PlainType) → Denotes s.here x t → (number : ℕ) × (find x.decl scope ≡ Some number)) → ResultSorted s.clause ns → BindersSorted s.binders ns
+    → Stand s scope ks ns (λ x. Planned ks x.0 x.1)
+planned_stand s scope ks ns denoted result bound = record {
+  denoted = denoted;
+  named = λ t x i. by s.clause result t x i;
+  binder = bound;
+  number_kept = λ l a u e q i p. kept_number ks s l a u e q i p;
+  pointer_kept = λ l a u e q v i p. kept_pointer ks s l a u e q v i p;
+}
   where
     by : (c : ClauseSight) → ResultSorted c ns → (t : Option PlainType) (x : Use) → IsResult c t x → sort_held x.decl ns ≡ Some (is_pointer_sort (sort_of t))
     by (AtEnd formals u) result t x i = ap (λ y. sort_held y ns) i.0 ∙ result i.2 ∙ ap (λ t. Some (is_pointer_sort (sort_of t))) (sym i.1)
     by (InBody v) result t x i = absurd i
     by AtEntry result t x i = absurd i
     by (UnderLabel formals) result t x i = absurd i
+
+pub typed_found : (s : AnnotationSight) (scope : Scope) (ks : List Kept) (ns : Sorted) → ((x : Use) (t : PlainType) → Denotes s.here x t → (number : ℕ) × (find x.decl scope ≡ Some number)) → ResultSorted s.clause ns → BindersSorted s.binders ns
+    → (p : Predicate) → NoNames s.clause ⊎ BindersApart p → ArePlanned ks (in_predicate p) → PredicateTyped s p → PredicateFound ks scope ns p
+typed_found s scope ks ns denoted result bound p apart planned q = predicate_found scope ks (λ x. Planned ks x.0 x.1) ns s (planned_stand s scope ks ns denoted result bound) p q apart planned
+
+pub typed_term_found : (s : AnnotationSight) (scope : Scope) (ks : List Kept) (ns : Sorted) → ((x : Use) (t : PlainType) → Denotes s.here x t → (number : ℕ) × (find x.decl scope ≡ Some number)) → ResultSorted s.clause ns → BindersSorted s.binders ns
+    → (t : LogicTerm) → ArePlanned ks (in_term t) → IsIntegerTerm t → TermTyped s t → TermFound ks scope ns t
+typed_term_found s scope ks ns denoted result bound t planned int q = term_found scope ks (λ x. Planned ks x.0 x.1) ns s (planned_stand s scope ks ns denoted result bound) t q planned int

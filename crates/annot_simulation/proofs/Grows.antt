@@ -1,5 +1,5 @@
 -- Code takes registers behind those taken before.
-use Rattle.std.proofs.Common.{◌≡◌, ◌≤◌, refl, Option, Some, None, Bool, true, false, if◌then◌else◌, List, [], ◌∷◌, ◌++◌, length, length-append, arith}
+use Rattle.std.proofs.Common.{◌≡◌, ℤ, ◌≤◌, refl, Option, Some, None, Bool, true, false, if◌then◌else◌, List, [], ◌∷◌, ◌++◌, length, length-append, arith}
 use Rattle.c_syntax.specs.declared.expression.BinOp.{BinOp}
 use Rattle.c_syntax.specs.declared.logic.Connective.{Connective}
 use Rattle.c_syntax.specs.declared.logic.Label.TheVariants.{Here, Pre, Marked}
@@ -10,20 +10,24 @@ use Rattle.c_syntax.specs.declared.annotation.Relation.{Relation}
 use Rattle.c_syntax.specs.declared.annotation.Relation.TheVariants as relation
 use Rattle.c_syntax.specs.Ctypes.{PlainType}
 use Rattle.c_syntax.specs.Ctypes as ctype
-use Rattle.c_syntax.specs.Logic.{LogicTerm, Links, NoLink, Linked, Zone, Zones, NoZone, Another, Predicate, range_of}
+use Rattle.c_syntax.specs.declared.logic.Quantifier.{Quantifier}
+use Rattle.c_syntax.specs.Logic.{LogicTerm, Links, NoLink, Linked, Zone, Zones, NoZone, Another, Predicate, Binder, Guards, NoGuard, Guarded, range_of}
 use Rattle.c_syntax.specs.Logic as logic
 use Rattle.c_syntax.specs.Programs.{TranslationUnit}
 use Rattle.c_model.specs.Ranges.{width_of_range}
+use Rattle.c_model.specs.Quantifiers.{first_of}
+use Rattle.c_model.specs.TermRanges.{lowered, raised}
 use Rattle.mon_syntax.specs.declared.tree.MonType.{MonType}
 use Rattle.mon_syntax.specs.declared.tree.MonType.TheVariants.{I32, I64, I128, Ptr}
 use Rattle.mon_syntax.specs.Registers.{Bindings}
-use Rattle.mon_syntax.specs.Trees.{MonExpression}
-use Rattle.c_effects.specs.Expressions.{pointer_to}
+use Rattle.mon_syntax.specs.Trees.{MonExpression, Register}
+use Rattle.c_effects.specs.Expressions.{in_type, pointer_to}
+use Rattle.annot_simulation.specs.Binders.{bounded_code, greatest_of, index_behind, least_of, over_code, tried_with, tries_code, with_last}
 use Rattle.mem_preds.specs.Questions.{type_of_fact}
 use Rattle.annot_simulation.specs.Pointers.{PointerCode, start_pointer, null_code, member_code, pointer_there, addresses_code}
 use Rattle.annot_simulation.specs.Code.{term_type, Reading, Side, OfNumber, OfPointer, used_by, side_by, again, related_code, is_pointer_term, is_null_term, pointer_code, place_code, zone_code, zones_code}
 use Rattle.annot_simulation.specs.Code.{Code, operated, is_total, variable_code, is_known, connected, left_first, both_asked, is_sure, term_code, chain_code, pred_code, sure_readings, sure_readings_of_term, known_at_right}
-use Rattle.annot_simulation.specs.Code.{type_of_width, working, width_of, type_of, binary_value}
+use Rattle.annot_simulation.specs.Code.{type_of_width, wider, working, width_of, type_of, binary_value, guards_code}
 
 pub longer : (rs ts : List MonType) → length rs ≤ length (rs ++ ts)
 longer rs ts = omega (arith, length-append rs ts)
@@ -80,6 +84,31 @@ again_used (OfPointer c) rs = refl
 pub side_grows : (m : Bool) (c : PointerCode) (d : Code) (rs : List MonType) → length rs ≤ length c.used → length rs ≤ length d.used → length rs ≤ length (used_by (side_by m c d))
 side_grows true c d rs h g = h
 side_grows false c d rs h g = g
+
+-- ---- binders
+
+with_last_grows : (k : MonType) (to : MonExpression) (o : Option ℤ) (go : MonExpression → List MonType → Code) (rs : List MonType) → ((to : MonExpression) (js : List MonType) → length js ≤ length (go to js).used)
+    → length rs ≤ length (with_last k to o go rs).used
+with_last_grows k to None go rs h = h to rs
+with_last_grows k to (Some z) go rs h = let x = h (Register (length rs)) (rs ++ k ∷ []) in omega (arith, x, longer rs (k ∷ []))
+
+module _ (q : Quantifier) (k : MonType) (to : MonExpression) (most : ℤ) (inner : List Held → List MonType → Code) (h : (held : List Held) (js : List MonType) → length js ≤ length (inner held js).used) where
+  pub over_grows : (from : MonExpression) (least : ℤ) (bs : List Binder) (held : List Held) (rs : List MonType) → length rs ≤ length (over_code q k to most inner from least bs held rs).used
+  over_grows from least [] held rs = h held rs
+  over_grows from least (b ∷ bs) held rs =
+      with_last_grows k to (greatest_of b.kind most)
+      (λ last js. tries_code q (record { above = b.above; kind = k; least = least_of b.kind (raised b.above least); from = from; to = last }) (length js) (others js)) rs (λ last js.
+      let x = over_grows (Register (index_behind js)) (first_of b.kind (raised b.above least)) bs (record { number = b.place.offset; register = index_behind js; kind = k } ∷ held) (tried_with k js) in
+      omega (arith, x, longer js (I32 ∷ I32 ∷ I32 ∷ k ∷ [])))
+    where
+      others : List MonType → Code
+      others js =
+          over_code q k to most inner (Register (index_behind js)) (first_of b.kind (raised b.above least)) bs (record { number = b.place.offset; register = index_behind js; kind = k } ∷ held) (tried_with k js)
+
+pub bounded_grows : (q : Quantifier) (below : Bool) (k : MonType) (from to : MonExpression) (least most : ℤ) (bs : List Binder) (inner : List Held → List MonType → Code) (held : List Held) (rs : List MonType)
+    → ((held : List Held) (js : List MonType) → length js ≤ length (inner held js).used) → length rs ≤ length (bounded_code q below k from to least most bs inner held rs).used
+bounded_grows q below k from to least most bs inner held rs h =
+    let x = over_grows q k (Register (length rs)) most inner h from least bs held (rs ++ k ∷ []) in omega (arith, x, longer rs (k ∷ []))
 
 module _ (p : TranslationUnit) (bound : Bindings) (plan : List Kept) where
   variable_grows : (t : Bool) (w : MonType) (x : Reading) (rs : List MonType) → length rs ≤ length (variable_code p bound t w x rs).used
@@ -233,4 +262,19 @@ module _ (p : TranslationUnit) (bound : Bindings) (plan : List Kept) where
         let x = zones_grows zs held known rs in
         let l = longer (zones_code p bound plan zs held known rs).used (I32 ∷ I32 ∷ []) in
         omega (arith, x, l)
-    pred_grows _ held known rs = omega arith
+    pred_grows (logic.Quantified at q gs a) held known rs = guards_grows q gs (pred_code p bound plan a) held known rs (λ held known rs. pred_grows a held known rs)
+
+    pub guards_grows : (q : Quantifier) (gs : Guards) (inner : List Held → List Reading → List MonType → Code) (held : List Held) (known : List Reading) (rs : List MonType)
+        → ((held : List Held) (known : List Reading) (rs : List MonType) → length rs ≤ length (inner held known rs).used) → length rs ≤ length (guards_code p bound plan q gs inner held known rs).used
+    guards_grows q NoGuard inner held known rs h = h held known rs
+    guards_grows q (Guarded a y ys below b rest) inner held known rs h =
+        let u = term_code p bound plan a held known rs in
+        let v = term_code p bound plan b held known u.used in
+        let k = type_of_width (wider (width_of a) (width_of b)) in
+        let more = known ++ (sure_readings_of_term a ++ sure_readings_of_term b) in
+        let c = bounded_code q below k (in_type (type_of a) k u.value) (in_type (type_of b) k v.value) (range_of a).lo (lowered below (range_of b).hi) (y ∷ ys) (λ names js. guards_code p bound plan q rest inner names more js) held v.used in
+        let gx = term_grows a held known rs in
+        let gy = term_grows b held known u.used in
+        let gc = bounded_grows q below k (in_type (type_of a) k u.value) (in_type (type_of b) k v.value) (range_of a).lo (lowered below (range_of b).hi) (y ∷ ys) (λ names js. guards_code p bound plan q rest inner names more js) held v.used
+        (λ names js. guards_grows q rest inner names more js h) in
+        omega (arith, gx, gy, gc, longer c.used (I32 ∷ I32 ∷ []))

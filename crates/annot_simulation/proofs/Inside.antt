@@ -1,5 +1,5 @@
 -- The code of every predicate stays inside its statements.
-use Rattle.std.proofs.Common.{◌≡◌, ℕ, suc, pos, Bool, true, false, not, ◌&&◌, if◌then◌else◌, List, [], ◌∷◌, ◌++◌, length, Option, Some, None, Result, IfOk, refl, sym, subst}
+use Rattle.std.proofs.Common.{◌≡◌, ℕ, suc, ℤ, ◌||◌, ap, pos, Bool, true, false, not, ◌&&◌, if◌then◌else◌, List, [], ◌∷◌, ◌++◌, length, Option, Some, None, Result, IfOk, refl, sym, subst}
 use Rattle.std.proofs.lemmas.Result.{IfOk-weaker}
 use Rattle.c_syntax.specs.declared.expression.BinOp.{BinOp}
 use Rattle.c_syntax.specs.declared.logic.Connective.{Connective}
@@ -11,15 +11,25 @@ use Rattle.c_syntax.specs.declared.annotation.Relation.{Relation}
 use Rattle.c_syntax.specs.declared.annotation.Relation.TheVariants as relation
 use Rattle.c_syntax.specs.Ctypes.{PlainType}
 use Rattle.c_syntax.specs.Ctypes as ctype
-use Rattle.c_syntax.specs.Logic.{LogicTerm, Links, NoLink, Linked, Zone, Zones, NoZone, Another, Predicate, range_of}
+use Rattle.std.specs.Prelude.{bytes_eq}
+use Rattle.c_syntax.specs.declared.logic.Quantifier.{Quantifier}
+use Rattle.c_syntax.specs.declared.logic.Quantifier.TheVariants.{ForAll, Exists}
+use Rattle.c_syntax.specs.Logic.{LogicTerm, Links, NoLink, Linked, Zone, Zones, NoZone, Another, Predicate, Binder, Guards, NoGuard, Guarded, range_of}
 use Rattle.c_syntax.specs.Logic as logic
 use Rattle.c_syntax.specs.Programs.{TranslationUnit}
+use Rattle.c_model.specs.Quantifiers.{first_of, undecided}
 use Rattle.c_model.specs.Ranges.{width_of_range}
+use Rattle.c_model.specs.TermRanges.{lowered, raised}
+use Rattle.quantifier_loops.specs.Tries.{Between, first_behind, from_first, is_one_behind, noted, noted_as, nothing_noted, one_try}
+use Rattle.quantifier_loops.specs.Upward.{tried_label, turn_end, upward}
+use Rattle.quantifier_loops.proofs.Values.{same_label}
+use Rattle.annot_simulation.specs.Binders.{bounded_code, bounds_relation, greatest_of, index_behind, least_of, over_code, tried_with, tries_code, with_last}
 use Rattle.mon_syntax.specs.declared.tree.MonType.{MonType}
 use Rattle.mon_syntax.specs.declared.tree.MonType.TheVariants.{I32}
 use Rattle.mon_syntax.specs.Registers.{Bindings, Names}
-use Rattle.mon_syntax.specs.Trees.{MonExpression, Register, Global, Constant, Binary, Minus, Flip, Cast, Load, MonStatements, NoStatement, Then, If}
-use Rattle.mon_syntax.specs.Valid.{is_step, has_no_step}
+use Rattle.mon_syntax.specs.Trees.{MonExpression, Register, Global, Constant, Binary, Minus, Flip, Cast, Load, MonStatement, MonStatements, NoStatement, Then, If, Loop, Labelled, Goto, Return, Set, Store, Step, Assert}
+use Rattle.mon_syntax.specs.Trees.{PutChar, GetChar, Exit, PrintText, PrintSigned, PrintUnsigned, PrintString, Act, Call}
+use Rattle.mon_syntax.specs.Valid.{Labels, has_label, is_step, has_no_step}
 use Rattle.term_guards.specs.Guards.{guard}
 use Rattle.c_effects.specs.Expressions.{before, one, in_type, pointer_to}
 use Rattle.annot_simulation.specs.Pointers.{PointerCode, ZoneCode, start_pointer, null_code, member_code, pointer_there, answered_in, take_pointer}
@@ -28,8 +38,8 @@ use Rattle.annot_simulation.specs.Code.{Side, OfNumber, OfPointer, used_by, stmt
 use Rattle.c_effects.specs.Named.{unit_of}
 use Rattle.annot_simulation.specs.Code.{Reading, Code, term_type, with_value, conjunction, guarded, take, take_none, branch, truth_code, is_sure, both_asked, left_first, connected, operated, is_total}
 use Rattle.annot_simulation.specs.Code.{variable_code, is_known, term_code, chain_code, pred_code, sure_readings, sure_readings_of_term, known_at_right, judged_by, judged_anew, judged_with, Judgement, judgement}
-use Rattle.annot_simulation.specs.Code.{type_of_width, working, width_of, type_of, binary_value}
-use Rattle.annot_simulation.specs.Inside.{StayInside, AreInside}
+use Rattle.annot_simulation.specs.Code.{type_of_width, wider, working, width_of, type_of, binary_value, relation_code, guards_code}
+use Rattle.annot_simulation.specs.Inside.{StaysInside, StayInside, AreInside}
 
 -- control stays in statements, in which no step stands directly
 abbrev pub Inside : MonStatements → Type 0
@@ -60,7 +70,7 @@ pub guarded_inside : (f : Option MonExpression) (a b : MonStatements) → Inside
 guarded_inside None a b h k = h
 guarded_inside (Some e) a b h k = if_inside e a b h k
 
-take_inside : (f : Option MonExpression) (e : MonExpression) (r : ℕ) → Inside (take f e r)
+pub take_inside : (f : Option MonExpression) (e : MonExpression) (r : ℕ) → Inside (take f e r)
 take_inside None e r = ((tt, (tt, tt)), refl)
 take_inside (Some a) e r = ((tt, (((tt, tt), tt), tt)), refl)
 
@@ -180,6 +190,93 @@ pairs_inside : (t : ℕ) (zs : List ZoneCode) → Inside (each_pair t zs)
 pairs_inside t [] = nothing_inside
 pairs_inside t (z ∷ zs) = before_inside (apart_from_each t z zs) (each_pair t zs) (each_inside t z zs) (pairs_inside t zs)
 
+-- ---- binders
+
+one_more : (s t u : Bool) → (t ≡ true → u ≡ true) → (s || t) ≡ true → (s || u) ≡ true
+one_more true t u m e = refl
+one_more false t u m e = m e
+
+-- statements stay inside more labels
+mutual
+  stays_more : (ls ms : Labels) (a : MonStatement) → ((l : List ℕ) → has_label ls l ≡ true → has_label ms l ≡ true) → StaysInside ls a → StaysInside ms a
+  stays_more ls ms (If e a b) m h = (stay_more ls ms a m h.0, stay_more ls ms b m h.1)
+  stays_more ls ms (Loop a b) m h = (stay_more ls ms a m h.0, stay_more ls ms b m h.1)
+  stays_more ls ms (Labelled a l) m h = stay_more (l ∷ ls) (l ∷ ms) a (λ x e. one_more (bytes_eq x l) (has_label ls x) (has_label ms x) (m x) e) h
+  stays_more ls ms (Goto l) m h = m l h
+  stays_more ls ms (Return e) m h = absurd h
+  stays_more ls ms (Set r e) m h = tt
+  stays_more ls ms (Store r t e) m h = tt
+  stays_more ls ms Step m h = tt
+  stays_more ls ms (Assert d v number line kind) m h = tt
+  stays_more ls ms (PutChar r e) m h = tt
+  stays_more ls ms (GetChar r) m h = tt
+  stays_more ls ms (Exit e) m h = tt
+  stays_more ls ms (PrintText bytes) m h = tt
+  stays_more ls ms (PrintSigned e) m h = tt
+  stays_more ls ms (PrintUnsigned e) m h = tt
+  stays_more ls ms (PrintString e) m h = tt
+  stays_more ls ms (Act r f args) m h = tt
+  stays_more ls ms (Call r f args) m h = tt
+
+  stay_more : (ls ms : Labels) (a : MonStatements) → ((l : List ℕ) → has_label ls l ≡ true → has_label ms l ≡ true) → StayInside ls a → StayInside ms a
+  stay_more ls ms NoStatement m h = tt
+  stay_more ls ms (Then a rest) m h = (stays_more ls ms a m h.0, stay_more ls ms rest m h.1)
+
+stay_before : (ls : Labels) (a b : MonStatements) → StayInside ls a → StayInside ls b → StayInside ls (before a b)
+stay_before ls NoStatement b h k = k
+stay_before ls (Then x a) b h k = (h.0, stay_before ls a b h.1 k)
+
+-- a jump to the label of the loop around
+own_label : (l : List ℕ) (ls : Labels) → has_label (l ∷ ls) l ≡ true
+own_label l ls = ap (λ b. b || has_label ls l) (same_label l)
+
+upward_inside : (k : MonType) (index : ℕ) (from to : MonExpression) (inner : MonStatements) (stop : ℕ) → Inside inner → Inside (one (upward k index from to inner stop))
+upward_inside k index from to inner stop h =
+    let l = tried_label index in
+    let own = own_label l [] in
+    ((((tt, ((tt, (own, tt)), ((tt, stay_before (l ∷ []) inner (turn_end k index to stop) (stay_more [] (l ∷ []) inner (λ x e. absurd cc) h.0) (((own, tt), tt), (((own, tt), tt), (tt, tt)))), tt)))), tt), refl)
+
+pub tried_inside : (q : Quantifier) (r : ℕ) (a : MonStatements) (f : Option MonExpression) (e : MonExpression) → Inside a → Inside (one_try q r a f e)
+tried_inside q r a f e h = before_inside a (guarded f (noted q r e) (nothing_noted r)) h (guarded_inside f (noted q r e) (nothing_noted r) (noted_inside q) ((tt, (tt, tt)), refl))
+  where
+    noted_inside : (q : Quantifier) → Inside (noted q r e)
+    noted_inside ForAll = if_inside e NoStatement (noted_as r (pos 0)) nothing_inside ((tt, (tt, tt)), refl)
+    noted_inside Exists = if_inside e (noted_as r (pos 1)) NoStatement ((tt, (tt, tt)), refl) nothing_inside
+
+from_first_inside : (o : Option ℤ) (b : Between) (index : ℕ) (inner : MonStatements) (stop : ℕ) → Inside inner → Inside (from_first o b index inner stop)
+from_first_inside None b index inner stop h = upward_inside b.kind index (first_behind b) b.to inner stop h
+from_first_inside (Some z) b index inner stop h = let u = upward_inside b.kind index (Register index) b.to inner stop h in ((tt, (((tt, tt), tt), u.0)), u.1)
+
+tries_inside : (q : Quantifier) (b : Between) (r : ℕ) (c : Code) → Inside c.stmts → Inside (tries_code q b r c).stmts
+tries_inside q b r c h =
+    let loops = from_first b.least b (suc (suc (suc r))) (one_try q r c.stmts c.flag c.value) (suc (suc r)) in
+    let i = if_inside (is_one_behind b) loops NoStatement (from_first_inside b.least b (suc (suc (suc r))) (one_try q r c.stmts c.flag c.value) (suc (suc r)) (tried_inside q r c.stmts c.flag c.value h)) nothing_inside in
+    ((tt, (tt, (tt, i.0))), i.1)
+
+with_last_inside : (k : MonType) (to : MonExpression) (o : Option ℤ) (go : MonExpression → List MonType → Code) (rs : List MonType) → ((to : MonExpression) (js : List MonType) → Inside (go to js).stmts) → Inside (with_last k to o go rs).stmts
+with_last_inside k to None go rs h = h to rs
+with_last_inside k to (Some z) go rs h = let i = h (Register (length rs)) (rs ++ k ∷ []) in ((tt, (((tt, tt), tt), i.0)), i.1)
+
+module _ (q : Quantifier) (k : MonType) (to : MonExpression) (most : ℤ) (inner : List Held → List MonType → Code) (h : (held : List Held) (js : List MonType) → Inside (inner held js).stmts) where
+  pub over_inside : (from : MonExpression) (least : ℤ) (bs : List Binder) (held : List Held) (rs : List MonType) → Inside (over_code q k to most inner from least bs held rs).stmts
+  over_inside from least [] held rs = h held rs
+  over_inside from least (b ∷ bs) held rs =
+      with_last_inside k to (greatest_of b.kind most) (λ last js. tries_code q (bounds last) (length js) (others js)) rs (λ last js.
+      tries_inside q (bounds last) (length js) (others js)
+      (over_inside (Register (index_behind js)) (first_of b.kind (raised b.above least)) bs (record { number = b.place.offset; register = index_behind js; kind = k } ∷ held) (tried_with k js)))
+    where
+      bounds : MonExpression → Between
+      bounds last = record { above = b.above; kind = k; least = least_of b.kind (raised b.above least); from = from; to = last }
+
+      others : List MonType → Code
+      others js =
+          over_code q k to most inner (Register (index_behind js)) (first_of b.kind (raised b.above least)) bs (record { number = b.place.offset; register = index_behind js; kind = k } ∷ held) (tried_with k js)
+
+pub bounded_inside : (q : Quantifier) (below : Bool) (k : MonType) (from to : MonExpression) (least most : ℤ) (bs : List Binder) (inner : List Held → List MonType → Code) (held : List Held) (rs : List MonType)
+    → ((held : List Held) (js : List MonType) → Inside (inner held js).stmts) → Inside (bounded_code q below k from to least most bs inner held rs).stmts
+bounded_inside q below k from to least most bs inner held rs h =
+    let i = over_inside q k (Register (length rs)) most inner h from least bs held (rs ++ k ∷ []) in ((tt, i.0), i.1)
+
 -- ---- terms and predicates
 
 module _ (p : TranslationUnit) (bound : Bindings) (plan : List Kept) where
@@ -284,7 +381,7 @@ module _ (p : TranslationUnit) (bound : Bindings) (plan : List Kept) where
         connected_inside And z (chain_code p bound plan u start (Linked at2 r2 v rest) held more)
         (related_inside r t u x y h (side_inside (is_pointer_term u) c d (pointer_inside u held known (used_by x)) (term_inside u held known (used_by x)))) (chain_inside u start (Linked at2 r2 v rest) held more (again_inside y z.used))
 
-    pred_inside : (q : Predicate) (held : List Held) (known : List Reading) (rs : List MonType) → Inside (pred_code p bound plan q held known rs).stmts
+    pub pred_inside : (q : Predicate) (held : List Held) (known : List Reading) (rs : List MonType) → Inside (pred_code p bound plan q held known rs).stmts
     pred_inside (logic.Truth at b) held known rs = nothing_inside
     pred_inside (logic.NonZero at t) held known rs = term_inside t held known rs
     pred_inside (logic.Chain at t links) held known rs =
@@ -300,7 +397,7 @@ module _ (p : TranslationUnit) (bound : Bindings) (plan : List Kept) where
         let z = pred_code p bound plan c held known rs in
         let x = pred_code p bound plan a held more z.used in
         branch_inside I32 z x (pred_code p bound plan b held more x.used) (pred_inside c held known rs) (pred_inside a held more z.used) (pred_inside b held more x.used)
-    pred_inside (logic.Quantified at quantifier guards q) held known rs = nothing_inside
+    pred_inside (logic.Quantified at q gs a) held known rs = guards_inside q gs (pred_code p bound plan a) held known rs (λ held known rs. pred_inside a held known rs)
     pred_inside (logic.Asks at f z) held known rs =
         let c = (zone_code p bound plan z held known rs).pointer in before_inside c.stmts _ (zone_inside z held known rs) (guarded_inside c.flag _ NoStatement ((tt, tt), refl) nothing_inside)
     pred_inside (logic.Separated at zs) held known rs =
@@ -308,12 +405,25 @@ module _ (p : TranslationUnit) (bound : Bindings) (plan : List Kept) where
         let pairs = pairs_inside (length c.used) c.zones in
         before_inside c.stmts _ (zones_inside zs held known rs) (guarded_inside c.flag _ NoStatement ((tt, pairs.0), pairs.1) nothing_inside)
 
+    pub guards_inside : (q : Quantifier) (gs : Guards) (inner : List Held → List Reading → List MonType → Code) (held : List Held) (known : List Reading) (rs : List MonType)
+        → ((held : List Held) (known : List Reading) (rs : List MonType) → Inside (inner held known rs).stmts) → Inside (guards_code p bound plan q gs inner held known rs).stmts
+    guards_inside q NoGuard inner held known rs h = h held known rs
+    guards_inside q (Guarded a y ys below b rest) inner held known rs h =
+        let u = term_code p bound plan a held known rs in
+        let v = term_code p bound plan b held known u.used in
+        let k = type_of_width (wider (width_of a) (width_of b)) in
+        let more = known ++ (sure_readings_of_term a ++ sure_readings_of_term b) in
+        let within = λ (names : List Held) (js : List MonType). guards_code p bound plan q rest inner names more js in
+        let c = bounded_code q below k (in_type (type_of a) k u.value) (in_type (type_of b) k v.value) (range_of a).lo (lowered below (range_of b).hi) (y ∷ ys) within held v.used in
+        branch_inside I32 (relation_code (bounds_relation below) a b u v) c (truth_code (undecided q) c.used) (before_inside u.stmts v.stmts (term_inside a held known rs) (term_inside b held known u.used))
+        (bounded_inside q below k (in_type (type_of a) k u.value) (in_type (type_of b) k v.value) (range_of a).lo (lowered below (range_of b).hi) (y ∷ ys) within held v.used (λ names js. guards_inside q rest inner names more js h)) nothing_inside
+
 -- ---- the flag and the truth
 
 by_inside : (a : MonStatements) (f : ℕ) (e : MonExpression) (rs : List MonType) → Inside a → Inside (judged_by a f e rs).stmts
 by_inside a f e rs h = before_inside a _ h ((((tt, tt), (tt, tt)), tt), refl)
 
-anew_inside : (e : MonExpression) (c : Code) → Inside c.stmts → Inside (judged_anew e c).stmts
+pub anew_inside : (e : MonExpression) (c : Code) → Inside c.stmts → Inside (judged_anew e c).stmts
 anew_inside e c h = by_inside (before c.stmts _) (length c.used) c.value _ (before_inside c.stmts _ h ((tt, tt), refl))
 
 with_inside : (f : Option MonExpression) (c : Code) → Inside c.stmts → Inside (judged_with f c).stmts

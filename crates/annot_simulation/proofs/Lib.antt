@@ -17,7 +17,13 @@ pub mod Grows
 pub mod Connected
 pub mod Terms
 pub mod Sides
+pub mod Told
+pub mod Tries
+pub mod Binders
+pub mod Opened
+pub mod Bounds
 pub mod Theorem
+pub mod Outcomes
 pub mod Snapshots
 pub mod Plans
 pub mod ContractChecked
@@ -31,11 +37,14 @@ pub mod Opens
 pub mod ValidParts
 pub mod ValidPointers
 pub mod ValidZones
+pub mod ValidBinders
+mod ValidTerms
 pub mod ValidCode
 pub mod CheckPrefixes
 pub mod Inside
 pub mod Asserted
 pub mod ContractValid
+pub mod BinderNames
 pub mod Found
 pub mod SoundStores
 pub mod Beside

@@ -190,14 +190,15 @@ module _ (w : Setting) where
     second = c.holds;
   }
 
-  -- two parts as code, after which the second still holds what it did
-  pub record Two (a b : Code) (e : MonExpression) (ob o : Option ℤ) (rs : List MonType) (regs : List Value) : Type 0 where
+  -- two parts as code, after which both still hold what they did
+  pub record Two (a b : Code) (e : MonExpression) (oa ob o : Option ℤ) (rs : List MonType) (regs : List Value) : Type 0 where
     pub codes : Codes (two_code a b e) o rs regs
+    pub first : (later : List Value) → Same (length b.used) codes.end later → Holds a.flag a.value oa later
     pub second : (later : List Value) → Same (length b.used) codes.end later → Holds b.flag b.value ob later
 
   pub two_runs : (a b : Code) (e : MonExpression) (oa ob o : Option ℤ) (rs : List MonType) (regs : List Value) → Both a b oa ob rs regs
       → is_some o ≡ (is_some oa && is_some ob) → ((later : List Value) → ((x : ℤ) → oa ≡ Some x → HasNumber w a.value later x) → ((y : ℤ) → ob ≡ Some y → HasNumber w b.value later y) → (z : ℤ) → o ≡ Some z → HasNumber w e later z)
-      → Two a b e ob o rs regs
+      → Two a b e oa ob o rs regs
   two_runs a b e oa ob o rs regs h there has = record {
     codes = record {
       end = h.end;
@@ -210,6 +211,7 @@ module _ (w : Setting) where
             value_is = λ z q. has later ha.value_is hb.value_is z q;
           };
     };
+    first = h.first;
     second = h.second;
   }
 

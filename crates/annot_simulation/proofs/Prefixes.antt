@@ -1,5 +1,5 @@
 -- The types of registers begin with those taken before.
-use Rattle.std.proofs.Common.{Bool, true, false, if◌then◌else◌, List, [], ◌∷◌, ◌++◌, Option, Some, None}
+use Rattle.std.proofs.Common.{ℤ, Bool, true, false, if◌then◌else◌, List, [], ◌∷◌, ◌++◌, length, Option, Some, None}
 use Rattle.c_syntax.specs.declared.expression.BinOp.{BinOp}
 use Rattle.c_syntax.specs.declared.logic.Connective.{Connective}
 use Rattle.c_syntax.specs.declared.logic.Label.TheVariants.{Here, Pre, Marked}
@@ -10,21 +10,25 @@ use Rattle.c_syntax.specs.declared.annotation.Relation.{Relation}
 use Rattle.c_syntax.specs.declared.annotation.Relation.TheVariants as relation
 use Rattle.c_syntax.specs.Ctypes.{PlainType}
 use Rattle.c_syntax.specs.Ctypes as ctype
-use Rattle.c_syntax.specs.Logic.{LogicTerm, Links, NoLink, Linked, Zone, Zones, NoZone, Another, Predicate, range_of}
+use Rattle.c_syntax.specs.declared.logic.Quantifier.{Quantifier}
+use Rattle.c_syntax.specs.Logic.{LogicTerm, Links, NoLink, Linked, Zone, Zones, NoZone, Another, Predicate, Binder, Guards, NoGuard, Guarded, range_of}
 use Rattle.c_syntax.specs.Logic as logic
 use Rattle.c_syntax.specs.Programs.{TranslationUnit}
 use Rattle.c_model.specs.Ranges.{width_of_range}
+use Rattle.c_model.specs.Quantifiers.{first_of}
+use Rattle.c_model.specs.TermRanges.{lowered, raised}
 use Rattle.mon_syntax.specs.declared.tree.MonType.{MonType}
 use Rattle.mon_syntax.specs.declared.tree.MonType.TheVariants.{I32, I64, I128, Ptr}
 use Rattle.mon_syntax.specs.Registers.{Bindings}
 use Rattle.mon_syntax.specs.Trees.{MonExpression, Register, Global, Constant, Binary, Minus, Flip, Cast, Load}
 use Rattle.mon_syntax.specs.Valid.{Types}
-use Rattle.c_effects.specs.Expressions.{pointer_to}
+use Rattle.c_effects.specs.Expressions.{in_type, pointer_to}
+use Rattle.annot_simulation.specs.Binders.{bounded_code, greatest_of, index_behind, least_of, over_code, tried_with, tries_code, with_last}
 use Rattle.mem_preds.specs.Questions.{type_of_fact}
 use Rattle.annot_simulation.specs.Pointers.{PointerCode, start_pointer, null_code, member_code, pointer_there, addresses_code}
 use Rattle.annot_simulation.specs.Code.{term_type, Reading, Side, OfNumber, OfPointer, used_by, side_by, again, related_code, is_pointer_term, is_null_term, pointer_code, place_code, zone_code, zones_code}
 use Rattle.annot_simulation.specs.Code.{Code, operated, is_total, variable_code, is_known, connected, left_first, both_asked, is_sure, term_code, chain_code, pred_code, sure_readings, sure_readings_of_term, known_at_right}
-use Rattle.annot_simulation.specs.Code.{type_of_width, working, width_of, type_of, binary_value, judged_with}
+use Rattle.annot_simulation.specs.Code.{type_of_width, wider, working, width_of, type_of, binary_value, judged_with, guards_code}
 use Rattle.annot_simulation.specs.Validity.{Begins}
 use Rattle.annot_simulation.proofs.Typed.{begins_front}
 
@@ -80,6 +84,30 @@ module _ (ts : Types) where
   pub side_begins : (m : Bool) (c : PointerCode) (d : Code) (rs : Types) → (Begins c.used ts → Begins rs ts) → (Begins d.used ts → Begins rs ts) → Begins (used_by (side_by m c d)) ts → Begins rs ts
   side_begins true c d rs h g b = h b
   side_begins false c d rs h g b = g b
+
+  -- ---- binders
+
+  with_last_begins : (k : MonType) (to : MonExpression) (o : Option ℤ) (go : MonExpression → Types → Code) (rs : Types) → ((to : MonExpression) (js : Types) → Begins (go to js).used ts → Begins js ts) → Begins (with_last k to o go rs).used ts
+      → Begins rs ts
+  with_last_begins k to None go rs h b = h to rs b
+  with_last_begins k to (Some z) go rs h b = begins_front rs (k ∷ []) ts (h (Register (length rs)) (rs ++ k ∷ []) b)
+
+  module _ (q : Quantifier) (k : MonType) (to : MonExpression) (most : ℤ) (inner : List Held → Types → Code) (h : (held : List Held) (js : Types) → Begins (inner held js).used ts → Begins js ts) where
+    pub over_begins : (from : MonExpression) (least : ℤ) (bs : List Binder) (held : List Held) (rs : Types) → Begins (over_code q k to most inner from least bs held rs).used ts → Begins rs ts
+    over_begins from least [] held rs b = h held rs b
+    over_begins from least (y ∷ bs) held rs b =
+        with_last_begins k to (greatest_of y.kind most)
+        (λ last js. tries_code q (record { above = y.above; kind = k; least = least_of y.kind (raised y.above least); from = from; to = last }) (length js) (others js)) rs (λ last js d.
+        begins_front js (I32 ∷ I32 ∷ I32 ∷ k ∷ []) ts
+        (over_begins (Register (index_behind js)) (first_of y.kind (raised y.above least)) bs (record { number = y.place.offset; register = index_behind js; kind = k } ∷ held) (tried_with k js) d)) b
+      where
+        others : Types → Code
+        others js =
+            over_code q k to most inner (Register (index_behind js)) (first_of y.kind (raised y.above least)) bs (record { number = y.place.offset; register = index_behind js; kind = k } ∷ held) (tried_with k js)
+
+  pub bounded_begins : (q : Quantifier) (below : Bool) (k : MonType) (from to : MonExpression) (least most : ℤ) (bs : List Binder) (inner : List Held → Types → Code) (held : List Held) (rs : Types)
+      → ((held : List Held) (js : Types) → Begins (inner held js).used ts → Begins js ts) → Begins (bounded_code q below k from to least most bs inner held rs).used ts → Begins rs ts
+  bounded_begins q below k from to least most bs inner held rs h b = begins_front rs (k ∷ []) ts (over_begins q k (Register (length rs)) most inner h from least bs held (rs ++ k ∷ []) b)
 
   module _ (p : TranslationUnit) (bound : Bindings) (plan : List Kept) where
     variable_begins : (t : Bool) (w : MonType) (x : Reading) (rs : Types) → Begins (variable_code p bound t w x rs).used ts → Begins rs ts
@@ -187,7 +215,22 @@ module _ (ts : Types) where
           pred_begins c held known rs (pred_begins a held more z.used (pred_begins d held more x.used (begins_front y.used (I32 ∷ I32 ∷ []) ts b)))
       pred_begins (logic.Asks at f z) held known rs b = zone_begins z held known rs (begins_front (zone_code p bound plan z held known rs).pointer.used (I32 ∷ []) ts b)
       pred_begins (logic.Separated at zs) held known rs b = zones_begins zs held known rs (begins_front (zones_code p bound plan zs held known rs).used (I32 ∷ I32 ∷ []) ts b)
-      pred_begins _ held known rs b = b
+      pred_begins (logic.Quantified at q gs a) held known rs b = guards_begins q gs (pred_code p bound plan a) held known rs (λ held known rs b. pred_begins a held known rs b) b
+
+      pub guards_begins : (q : Quantifier) (gs : Guards) (inner : List Held → List Reading → Types → Code) (held : List Held) (known : List Reading) (rs : Types)
+          → ((held : List Held) (known : List Reading) (rs : Types) → Begins (inner held known rs).used ts → Begins rs ts) → Begins (guards_code p bound plan q gs inner held known rs).used ts → Begins rs ts
+      guards_begins q NoGuard inner held known rs h b = h held known rs b
+      guards_begins q (Guarded a y ys below d rest) inner held known rs h b =
+          let u = term_code p bound plan a held known rs in
+          let v = term_code p bound plan d held known u.used in
+          let k = type_of_width (wider (width_of a) (width_of d)) in
+          let more = known ++ (sure_readings_of_term a ++ sure_readings_of_term d) in
+          let least = (range_of a).lo in
+          let most = lowered below (range_of d).hi in
+          let c = bounded_code q below k (in_type (type_of a) k u.value) (in_type (type_of d) k v.value) least most (y ∷ ys) (λ names js. guards_code p bound plan q rest inner names more js) held v.used in
+          term_begins a held known rs (term_begins d held known u.used
+          (bounded_begins q below k (in_type (type_of a) k u.value) (in_type (type_of d) k v.value) least most (y ∷ ys) (λ names js. guards_code p bound plan q rest inner names more js) held v.used
+          (λ names js b. guards_begins q rest inner names more js h b) (begins_front c.used (I32 ∷ I32 ∷ []) ts b)))
 
 -- ---- judgements
 

@@ -1,4 +1,4 @@
--- Predicates take no step, and what they read holds numbers wherever they say something.
+-- Predicates without quantifiers take no step, and what they say.
 use Rattle.std.proofs.Common.{◌≡◌, ℕ, ℤ, pos, Bool, true, false, List, [], Option, Some, None, option_map, refl, sym, ap, ◌∙◌}
 use Rattle.c_syntax.specs.declared.annotation.Relation.{Relation}
 use Rattle.c_syntax.specs.declared.annotation.Relation.TheVariants.{Ne}
@@ -11,11 +11,11 @@ use Rattle.c_model.specs.Logic.{look, meant, Environment, TermValue, Mathematica
 use Rattle.c_model.specs.Memory.{Store}
 use Rattle.c_model.specs.MemoryQuestions.{Address, null_address}
 use Rattle.c_model.specs.Predicates.{chosen as chosen_term, same_as, other_than, connected as connected_answers, alignment_of, term, zone, zones, chain, pred}
+use Rattle.c_model.specs.QuietPredicates.{IsQuiet}
 use Rattle.c_model.specs.State.{State}
 use Rattle.c_model.specs.Logic.{said}
-use Rattle.c_simulation.specs.Keeping.{Kept}
 use Rattle.annot_simulation.specs.Held.{Sorted, sort_held}
-use Rattle.annot_simulation.specs.Does.{TakesNoStep, PredicateFound}
+use Rattle.annot_simulation.specs.Does.{TakesNoStep}
 use Rattle.annot_simulation.proofs.Parts.{after, pair, chosen}
 use Rattle.annot_simulation.proofs.Exact.{value_of}
 
@@ -111,16 +111,16 @@ connected_quiet Implies f g p q = lazy_quiet f g (Says true) p q (says_quiet tru
 connected_quiet Iff f g p q = fully_quiet same_as (λ x o. chosen (Some x) o (turned o)) f g same_said p q
 connected_quiet Xor f g p q = fully_quiet other_than (λ x o. chosen (Some x) (turned o) o) f g other_said p q
 
-pub pred_quiet : (ks : List Kept) (ns : Sorted) (p : Predicate) (s : State) (e : Environment) → PredicateFound ks s.scope ns p → Quiet (pred p s e)
-pred_quiet ks ns (logic.Truth at b) s e q = says_quiet b
-pred_quiet ks ns (logic.NonZero at t) s e q = related_quiet s.store Ne (term t s e) (Some (Mathematical (pos 0)))
-pred_quiet ks ns (logic.Chain at t links) s e q = chain_quiet (term t s e) links s e
-pred_quiet ks ns (logic.Not at p) s e q = denied_quiet (pred p s e) (pred_quiet ks ns p s e q)
-pred_quiet ks ns (logic.Connected at c p q) s e h = connected_quiet c (pred p s e) (pred q s e) (pred_quiet ks ns p s e h.0) (pred_quiet ks ns q s e h.1)
-pred_quiet ks ns (logic.Branch at c p q) s e h = lazy_quiet (pred c s e) (pred p s e) (pred q s e) (pred_quiet ks ns c s e h.0) (pred_quiet ks ns p s e h.1) (pred_quiet ks ns q s e h.2)
-pred_quiet ks ns (logic.Quantified at q gs p) s e h = absurd h
-pred_quiet ks ns (logic.Asks at f z) s e h = said_quiet (option_map (asks f s.store (alignment_of z)) (zone z s e))
-pred_quiet ks ns (logic.Separated at zs) s e h = said_quiet (option_map all_apart (zones zs s e))
+pub pred_quiet : (p : Predicate) → IsQuiet p → (s : State) (e : Environment) → Quiet (pred p s e)
+pred_quiet (logic.Truth at b) q s e = says_quiet b
+pred_quiet (logic.NonZero at t) q s e = related_quiet s.store Ne (term t s e) (Some (Mathematical (pos 0)))
+pred_quiet (logic.Chain at t links) q s e = chain_quiet (term t s e) links s e
+pred_quiet (logic.Not at p) q s e = denied_quiet (pred p s e) (pred_quiet p q s e)
+pred_quiet (logic.Connected at c p q) h s e = connected_quiet c (pred p s e) (pred q s e) (pred_quiet p h.0 s e) (pred_quiet q h.1 s e)
+pred_quiet (logic.Branch at c p q) h s e = lazy_quiet (pred c s e) (pred p s e) (pred q s e) (pred_quiet c h.0 s e) (pred_quiet p h.1 s e) (pred_quiet q h.2 s e)
+pred_quiet (logic.Quantified at q gs p) h s e = absurd h
+pred_quiet (logic.Asks at f z) h s e = said_quiet (option_map (asks f s.store (alignment_of z)) (zone z s e))
+pred_quiet (logic.Separated at zs) h s e = said_quiet (option_map all_apart (zones zs s e))
 
 -- ---- what each form says, by what its parts say
 
@@ -133,33 +133,6 @@ connected Or u v = chosen u (Some true) v
 connected Implies u v = chosen u v (Some true)
 connected Iff u v = chosen u v (turned v)
 connected Xor u v = chosen u (turned v) v
-
-fully_says : (f : Bool → Answer → Answer) (g : Bool → Option Bool → Option Bool) (a b : ℕ → Answer) → ((n : ℕ) (x : Bool) (o : Option Bool) → f x (said o n) ≡ said (g x o) n) → Quiet a → Quiet b
-    → said_by (fully (a 0) b f) ≡ after (said_by (a 0)) (λ x. g x (said_by (b 0)))
-fully_says f g a b h p q =
-    ap (λ y. said_by (fully y b f)) (p 0) ∙ ap said_by (fully_said f g (said_by (a 0)) (said_by (b 0)) b 0 (h 0) (q 0)) ∙ said_again (after (said_by (a 0)) (λ x. g x (said_by (b 0)))) 0
-
-pub not_says : (ks : List Kept) (ns : Sorted) (p : Predicate) (s : State) (e : Environment) → PredicateFound ks s.scope ns p → said_by (denied (pred p s e 0)) ≡ turned (says p s e)
-not_says ks ns p s e f = lazy_says (pred p s e) (Says false) (Says true) (pred_quiet ks ns p s e f) (says_quiet false) (says_quiet true)
-
-pub connected_says : (c : Connective) (f g : ℕ → Answer) → Quiet f → Quiet g → said_by (connected_answers c (f 0) g) ≡ connected c (said_by (f 0)) (said_by (g 0))
-connected_says And f g p q = lazy_says f g (Says false) p q (says_quiet false)
-connected_says Or f g p q = lazy_says f (Says true) g p (says_quiet true) q
-connected_says Implies f g p q = lazy_says f g (Says true) p q (says_quiet true)
-connected_says Iff f g p q = fully_says same_as (λ x o. chosen (Some x) o (turned o)) f g same_said p q ∙ by (said_by (f 0))
-  where
-    by : (u : Option Bool) → after u (λ x. chosen (Some x) (said_by (g 0)) (turned (said_by (g 0)))) ≡ chosen u (said_by (g 0)) (turned (said_by (g 0)))
-    by None = refl
-    by (Some x) = refl
-connected_says Xor f g p q = fully_says other_than (λ x o. chosen (Some x) (turned o) o) f g other_said p q ∙ by (said_by (f 0))
-  where
-    by : (u : Option Bool) → after u (λ x. chosen (Some x) (turned (said_by (g 0))) (said_by (g 0))) ≡ chosen u (turned (said_by (g 0))) (said_by (g 0))
-    by None = refl
-    by (Some x) = refl
-
-pub branch_says : (ks : List Kept) (ns : Sorted) (c p q : Predicate) (s : State) (e : Environment) → PredicateFound ks s.scope ns c → PredicateFound ks s.scope ns p → PredicateFound ks s.scope ns q
-    → said_by (lazily (pred c s e 0) (pred p s e) (pred q s e)) ≡ chosen (says c s e) (says p s e) (says q s e)
-branch_says ks ns c p q s e f g h = lazy_says (pred c s e) (pred p s e) (pred q s e) (pred_quiet ks ns c s e f) (pred_quiet ks ns p s e g) (pred_quiet ks ns q s e h)
 
 -- what is no pointer
 abbrev pub IsNoPointer : Option TermValue → Type 0
@@ -238,4 +211,4 @@ pub none_sorted : (s : State) (e : Environment) → AreSorted [] s e
 none_sorted s e = record { numbers = λ x q. absurd cc; pointers = λ x q. absurd cc }
 
 pub takes_no_step : TakesNoStep
-takes_no_step ks ns p s e found = (says p s e, pred_quiet ks ns p s e found)
+takes_no_step p s e quiet = (says p s e, pred_quiet p quiet s e)

@@ -31,7 +31,7 @@ entry x n few y (inl e) = subst IsShortEntry e (record { numbered = n; few = few
 entry x n few y (inr i) = absurd i
 
 mutual
-  term_short : (t : LogicTerm) → TermNumbered t → tokens_of_term t ≤ 400 → AllShort (in_term t)
+  pub term_short : (t : LogicTerm) → TermNumbered t → tokens_of_term t ≤ 400 → AllShort (in_term t)
   term_short (Number at t r n) q few = none
   term_short (Letter at t r n) q few = none
   term_short (Variable at t r x) q few = none
@@ -79,5 +79,5 @@ mutual
 
   guards_short : (gs : Guards) → GuardsNumbered gs → tokens_of_guards gs ≤ 400 → AllShort (in_guards gs)
   guards_short NoGuard q few = none
-  guards_short (Guarded a bs below b rest) q few =
+  guards_short (Guarded a y ys below b rest) q few =
       three (in_term a) (in_term b) (in_guards rest) (term_short a q.0 (omega (arith, few))) (term_short b q.1 (omega (arith, few))) (guards_short rest q.2 (omega (arith, few)))

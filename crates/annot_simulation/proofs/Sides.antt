@@ -181,13 +181,13 @@ module _ (w : Setting) where
     pub codes : Codes w c o rs regs
     pub second : (later : List Value) → Same (length c.used) codes.end later → SideHolds y u later
 
-  module _ (stands : Stands w) (ranges : RangesHold w.plan (sorts_held w.held) w.seen w.now w.names) (r : Relation) (t u : LogicTerm) (rs : List MonType) (regs : List Value) where
+  module _ (stands : Stands w) (ranges : RangesHold w.seen w.now w.names) (r : Relation) (t u : LogicTerm) (rs : List MonType) (regs : List Value) where
     abbrev says : Option Bool
     says = said_by (related w.now.store r (term t w.now w.names) (term u w.now w.names) 0)
 
-    numbers_related : TermRanged w.seen t → TermRanged w.seen u → TermFound w.plan w.now.scope (sorts_held w.held) t → TermFound w.plan w.now.scope (sorts_held w.held) u → (x y : Code)
+    pub numbers_related : TermRanged w.seen t → TermRanged w.seen u → TermFound w.plan w.now.scope (sorts_held w.held) t → TermFound w.plan w.now.scope (sorts_held w.held) u → (x y : Code)
         → Both w x y (value w stands ranges t) (value w stands ranges u) rs regs
-        → Two w x y (relation_value r (type_of_width (wider (width_of t) (width_of u))) (type_of t) (type_of u) x.value y.value) (value w stands ranges u) (truths says) rs regs
+        → Two w x y (relation_value r (type_of_width (wider (width_of t) (width_of u))) (type_of t) (type_of u) x.value y.value) (value w stands ranges t) (value w stands ranges u) (truths says) rs regs
     numbers_related q h f g x y both =
         two_runs w x y (relation_value r (type_of_width (wider (width_of t) (width_of u))) (type_of t) (type_of u) x.value y.value) (value w stands ranges t) (value w stands ranges u) (truths says) rs regs both
         (ap (λ o. is_some (truths o)) is ∙ relation_there (value w stands ranges t) (value w stands ranges u) (relates r))

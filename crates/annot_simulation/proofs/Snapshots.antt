@@ -271,7 +271,7 @@ keep_grows (OfNumber c) = omega arith
 keep_grows (OfPointer c) = omega (arith, length-append c.used (I128 ∷ []))
 
 module _ (p : TranslationUnit) (bound : Bindings) where
-  entry_grows : (k : Kept) (rs : List MonType) → length rs ≤ length (behind_keep (entry_side p bound rs k))
+  pub entry_grows : (k : Kept) (rs : List MonType) → length rs ≤ length (behind_keep (entry_side p bound rs k))
   entry_grows k rs =
       let c = pointer_code p bound [] k.term [] [] rs in
       let d = term_code p bound [] k.term [] [] rs in
@@ -288,7 +288,7 @@ module _ (p : TranslationUnit) (bound : Bindings) where
       by true h g = let x = entry_grows k rs in omega (arith, x, h)
       by false h g = g
 
-module _ (w : Setting) (n m : ℕ) (standing : StandsApart n m w) (ranges : RangesHold [] [] [] w.now []) (l : Option ℕ) where
+module _ (w : Setting) (n m : ℕ) (standing : StandsApart n m w) (ranges : RangesHold [] w.now []) (enough : w.target.steps ≤ w.turns) (l : Option ℕ) where
   stands_here : (regs : List Value) → Stays n m w.low w.regs regs → Stands (bare w regs)
   stands_here regs stays = record {
     store_is = standing.store_is;
@@ -316,7 +316,7 @@ module _ (w : Setting) (n m : ℕ) (standing : StandsApart n m w) (ranges : Rang
     abbrev value_here : Option TermValue
     value_here = term k.term w.now []
 
-    ready : Ready (bare w regs) (stands_here regs stays) ranges rs regs
+    ready : Ready (bare w regs) rs regs
     ready = record { low = low; near = same_all w.low regs }
 
     entered : found_by (is_pointer_term k.term) (PointerFound [] w.now.scope [] k.term) (TermFound [] w.now.scope [] k.term) → length (behind_keep (entry_side w.unit w.bound rs k)) ≤ length regs
@@ -328,12 +328,12 @@ module _ (w : Setting) (n m : ℕ) (standing : StandsApart n m w) (ranges : Rang
         by true e found room up =
             let long = length-append pc.used (I128 ∷ []) in
             keep_pointer_enters (bare w regs) k.term k.register (length rs) pc (term k.term w.now []) (pointer_found [] [] k.term w.now [] w.now.scope (none_sorted w.now []) found) rs regs
-            (pointer_does (bare w regs) (stands_here regs stays) ranges k.term ranged found [] tt rs regs ready (omega (arith, long, room))) e (omega arith) (pointer_grows w.unit w.bound [] k.term [] [] rs) (omega (arith, up, in_rs))
+            (pointer_does (bare w regs) (stands_here regs stays) ranges enough k.term ranged found [] tt rs regs ready (omega (arith, long, room))) e (omega arith) (pointer_grows w.unit w.bound [] k.term [] [] rs) (omega (arith, up, in_rs))
             (omega (arith, long, room))
         by false e found room up =
             let g = term_grows w.unit w.bound [] k.term [] [] rs in
             keep_enters (bare w regs) k.term k.register (length rs) tc (term k.term w.now []) (number_found [] [] k.term w.now [] w.now.scope (none_sorted w.now []) found) rs regs
-            (term_does (bare w regs) (stands_here regs stays) ranges k.term ranged found [] tt rs regs ready room) (omega arith) (omega (arith, up, in_rs, g, room))
+            (term_does (bare w regs) (stands_here regs stays) ranges enough k.term ranged found [] tt rs regs ready room) (omega arith) (omega (arith, up, in_rs, g, room))
 
   -- the value at the mark
   value_at_mark : (k : Kept) → found_by (is_pointer_term k.term) (PointerFound [] w.now.scope [] k.term) (TermFound [] w.now.scope [] k.term) → term k.term w.now [] ≡ term k.term (state_at now) []
@@ -416,4 +416,4 @@ module _ (w : Setting) (n m : ℕ) (standing : StandsApart n m w) (ranges : Rang
       one_passed k ks from order behind marks (passed ks h.1 (k.register + registers_of k.term) order.1 (omega (arith, behind, order.0)) marks) rs low in_rs regs x stays h.0 room
 
 pub snapshots_keep : SnapshotKeeps
-snapshots_keep w n m standing ranges l ks h order marks rs low in_rs room x = passed w n m standing ranges l ks h n order (omega arith) marks rs low in_rs w.regs room x (stays_all n m w.low w.regs)
+snapshots_keep w n m standing ranges enough l ks h order marks rs low in_rs room x = passed w n m standing ranges enough l ks h n order (omega arith) marks rs low in_rs w.regs room x (stays_all n m w.low w.regs)

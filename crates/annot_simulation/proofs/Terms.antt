@@ -21,6 +21,8 @@ use Rattle.c_model.specs.Predicates.{compute_one, in_type as typed_value, term}
 use Rattle.c_model.specs.Ranges.{LiesIn, width_of_range, wrapped}
 use Rattle.c_model.specs.TermRanges.{TermRanged, type_range, is_inside, cast_range, unary_range, place_range}
 use Rattle.ea_num.proofs.Converted.{widths_fit, conversions_keep_values}
+use Rattle.interval_infer.proofs.Sound.{term_within}
+use Rattle.interval_infer.proofs.Terms.{terms_lie_in_ranges}
 use Rattle.c_model.specs.TypedPredicates.{IsCastType}
 use Rattle.mon_syntax.specs.declared.tree.MonType.{MonType}
 use Rattle.mon_syntax.specs.declared.tree.MonType.TheVariants.{I32, I128}
@@ -47,7 +49,7 @@ use Rattle.annot_simulation.proofs.Conversions.{wrapped_is, lies_fits, inside_li
 use Rattle.annot_simulation.proofs.Quiet.{says, choice_is, both_is}
 use Rattle.annot_simulation.proofs.Variables.{Variable, variable_in_sight, load_is, IsRead, AllRead, known_is_read, read_value, after_some, unary_some, some_same}
 
-from_value : (o : Option TermValue) (z : ℤ) → value_of o ≡ Some z → o ≡ Some (Mathematical z)
+pub from_value : (o : Option TermValue) (z : ℤ) → value_of o ≡ Some z → o ≡ Some (Mathematical z)
 from_value None z e = absurd cc
 from_value (Some (Mathematical y)) z e = ap (λ y. Some (Mathematical y)) (some_same y z e)
 from_value (Some (Addressed y)) z e = absurd cc
@@ -113,15 +115,15 @@ working_fits op wr wa wb y f = by (is_shift op)
     by true = most wb f
     by false = wrap_in (wider wr (wider wa wb)) y (fits_right wr (wider wa wb) y (fits_right wa wb y f))
 
-module _ (w : Setting) (stands : Stands w) (ranges : RangesHold w.plan (sorts_held w.held) w.seen w.now w.names) where
+module _ (w : Setting) (stands : Stands w) (ranges : RangesHold w.seen w.now w.names) where
   abbrev pub value : LogicTerm → Option ℤ
   value t = value_of (term t w.now w.names)
 
   pub term_lies : (t : LogicTerm) → TermFound w.plan w.now.scope (sorts_held w.held) t → TermRanged w.seen t → (z : ℤ) → value t ≡ Some z → LiesIn (range_of t) z
-  term_lies t f q z e = ranges.lies t f q z (from_value (term t w.now w.names) z e)
+  term_lies t f q z e = terms_lie_in_ranges w.seen t w.now w.names (Mathematical z) ranges.state ranges.names q (from_value (term t w.now w.names) z e)
 
   pub term_fits : (t : LogicTerm) → TermFound w.plan w.now.scope (sorts_held w.held) t → TermRanged w.seen t → (z : ℤ) → value t ≡ Some z → Fits (width_of t) z
-  term_fits t f q z e = widths_fit (range_of t) z (ranges.within t q) (term_lies t f q z e)
+  term_fits t f q z e = widths_fit (range_of t) z (term_within w.seen t ranges.names.within q) (term_lies t f q z e)
 
   -- ---- leaves
 

@@ -8,14 +8,18 @@ use Rattle.c_syntax.specs.Ctypes.{PlainType}
 use Rattle.c_syntax.specs.declared.logic.Connective.{Connective}
 use Rattle.c_syntax.specs.declared.logic.Connective.TheVariants.{And, Xor, Or, Implies, Iff}
 use Rattle.c_syntax.specs.declared.place.Place.{Place}
-use Rattle.c_syntax.specs.Logic.{LogicTerm, Links, NoLink, Linked, Predicate, range_of}
+use Rattle.c_syntax.specs.declared.logic.Quantifier.{Quantifier}
+use Rattle.c_syntax.specs.Logic.{LogicTerm, Links, NoLink, Linked, Predicate, Guards, NoGuard, Guarded, range_of}
 use Rattle.c_syntax.specs.Logic as logic
 use Rattle.c_model.specs.Integers.{truth}
-use Rattle.c_model.specs.Logic.{Mathematical, related, relates, said}
+use Rattle.c_model.specs.Logic.{Environment, Mathematical, Answer, Says, SaysNothing, OutOfSteps, related, relates, said}
+use Rattle.c_model.specs.QuietPredicates.{IsQuiet}
+use Rattle.c_model.proofs.Along.{steps_of, steps_guarded, steps_pred}
+use Rattle.interval_infer.specs.Terms.{NamesFit, StateFits}
 use Rattle.c_model.specs.Memory.{Value, Integer}
-use Rattle.c_model.specs.Predicates.{term, chain, pred}
+use Rattle.c_model.specs.Predicates.{term, chain, pred, guarded}
 use Rattle.c_model.specs.Ranges.{width_of_range}
-use Rattle.c_model.specs.TermRanges.{TermRanged, LinksRanged, PredicateRanged}
+use Rattle.c_model.specs.TermRanges.{Seen, TermRanged, LinksRanged, PredicateRanged, GuardsRanged, lowered}
 use Rattle.mon_syntax.specs.declared.tree.MonType.{MonType}
 use Rattle.mon_syntax.specs.declared.tree.MonType.TheVariants.{I32}
 use Rattle.mon_syntax.specs.declared.tree.MonOp.TheVariants as mon
@@ -40,11 +44,12 @@ use Rattle.c_model.specs.State.{Scope, find, start_of}
 use Rattle.c_model.specs.TermRanges.{ZoneRanged, ZonesRanged, offset_range, held_range, member_range, address_range, cast_range}
 use Rattle.mon_syntax.specs.declared.tree.MonType.TheVariants.{I64, I128, Ptr}
 use Rattle.mon_syntax.specs.Arithmetic.{wrap, access_bytes}
-use Rattle.c_effects.specs.Expressions.{pointer_to, register_type}
+use Rattle.c_effects.specs.Expressions.{in_type, pointer_to, register_type}
 use Rattle.mem_preds.specs.Questions.{size_of, type_of_fact}
 use Rattle.c_syntax.specs.declared.logic.Label.TheVariants.{Here, Pre, Marked}
 use Rattle.c_simulation.specs.Keeping.{Kept}
-use Rattle.annot_simulation.specs.Held.{Sorted, sorts_held}
+use Rattle.annot_simulation.specs.Binders.{bounded_code}
+use Rattle.annot_simulation.specs.Held.{Held, Sorted, sorts_held}
 use Rattle.annot_simulation.specs.Pieces.{term_type}
 use Rattle.annot_simulation.specs.Pointers.{PointerCode, start_pointer, null, member_code, moved_code, branch_pointer, number_read, pointer_read, pointer_known, pointer_there, told_pointer, difference_code, elements_code, zone_asked, separated_code}
 use Rattle.annot_simulation.specs.Code.{is_known, Side, OfNumber, OfPointer, used_by, side_by, again, related_code, is_pointer_term, pointer_code, place_code, zone_code, zones_code}
@@ -59,22 +64,24 @@ use Rattle.annot_simulation.proofs.PointerChoices.{branch_pointer_codes}
 use Rattle.annot_simulation.proofs.Sides.{relation_there, relation_truth, SideCodes, IsSide, side_made, again_side, both_sides, related_codes}
 use Rattle.annot_simulation.proofs.Zones.{ZoneCodes, object_codes, elements_codes, elements_is, asked_codes, ZonesCodes, no_zones_codes, another_codes, separated_codes}
 use Rattle.annot_simulation.proofs.Variables.{is_held, known_is_read, related_there}
-use Rattle.annot_simulation.proofs.Grows.{pointer_grows, place_grows, zone_grows, zones_grows, there_grows, related_grows, side_grows, again_used}
+use Rattle.annot_simulation.proofs.Grows.{bounded_grows, guards_grows, pointer_grows, place_grows, zone_grows, zones_grows, there_grows, related_grows, side_grows, again_used}
 use Rattle.annot_simulation.proofs.Exact.{value_of, Fits, wrap_in, fits_right}
-use Rattle.annot_simulation.proofs.Quiet.{said_again, choice_address}
 use Rattle.annot_simulation.specs.Code.{Reading}
 use Rattle.annot_simulation.specs.Code.{Code, Judgement, with_value as code_with_value, type_of_width, type_of, width_of, connected as connected_code, term_code, chain_code, pred_code, sure_readings}
-use Rattle.annot_simulation.specs.Code.{sure_readings_of_term, known_at_right}
-use Rattle.annot_simulation.specs.Code.{working, is_total, binary_value, judged_by, judged_anew, judged_with}
-use Rattle.annot_simulation.specs.Does.{Setting, runs, Stands, RangesHold, TermFound, LinksFound, PredicateFound, is_true, Finishes, IsJudged, Judges, CodeJudges}
+use Rattle.annot_simulation.specs.Code.{sure_readings_of_term, known_at_right, truth_code, wider, guards_code}
+use Rattle.annot_simulation.specs.Code.{working, is_total, binary_value}
+use Rattle.annot_simulation.specs.Does.{Setting, with_steps, runs, Stands, RangesHold, TermFound, LinksFound, PredicateFound, GuardsFound}
 use Rattle.c_simulation.specs.SameRegisters.{Same}
 use Rattle.annot_simulation.proofs.Steps.{same_all, same_less, same_trans, same_set, get-set_same, after_runs, HasNumber, constant_has, operation, set_runs, if_true, if_false}
-use Rattle.annot_simulation.proofs.Parts.{truths, chosen, FlagIs, Codes, both_run, changed, sure_codes, settled_runs, branch_runs}
+use Rattle.annot_simulation.proofs.Parts.{truths, chosen, Codes, both_run, changed, sure_codes, settled_runs}
 use Rattle.annot_simulation.proofs.Exact.{is_number}
-use Rattle.annot_simulation.proofs.Quiet.{says, said_by, turned, relation_says, not_says, connected_says, branch_says, chain_says, pred_quiet}
-use Rattle.annot_simulation.proofs.Variables.{AllRead, read-append, some_same, relation_read, pred_read, known_right}
+use Rattle.annot_simulation.proofs.Quiet.{says, said_by, relation_says, related_quiet, chain_quiet, chain_says, choice_address, pred_quiet}
+use Rattle.annot_simulation.proofs.Variables.{AllRead, read-append, some_same, relation_read, pred_read, known_right, known_strict}
 use Rattle.annot_simulation.proofs.Grows.{longer, operated_grows, term_grows, chain_grows, pred_grows, connected_grows}
-use Rattle.annot_simulation.proofs.Connected.{connected_runs, RightCodes}
+use Rattle.annot_simulation.proofs.Connected.{connected_runs}
+use Rattle.annot_simulation.proofs.Told.{Told, branch_told, codes_of, connected_told, denied_told, told_of}
+use Rattle.annot_simulation.proofs.Binders.{moved}
+use Rattle.annot_simulation.proofs.Bounds.{bounds_told}
 use Rattle.annot_simulation.proofs.Terms.{value, term_lies, term_fits, number_codes, variable_codes, unary_codes, binary_codes, cast_codes, choice_codes}
 
 -- ---- truths
@@ -82,21 +89,6 @@ use Rattle.annot_simulation.proofs.Terms.{value, term_lies, term_fits, number_co
 truths_there : (u : Option Bool) → is_some (truths u) ≡ is_some u
 truths_there None = refl
 truths_there (Some b) = refl
-
-turned_there : (u : Option Bool) → is_some (truths (turned u)) ≡ is_some (truths u)
-turned_there None = refl
-turned_there (Some true) = refl
-turned_there (Some false) = refl
-
-turned_truth : (u : Option Bool) (z : ℤ) → truths (turned u) ≡ Some z → (x : Bool) × (truths u ≡ Some (truth x)) × (operate mon.Eq I32 (truth x) (pos 0) ≡ Some z)
-turned_truth None z e = absurd cc
-turned_truth (Some true) z e = (true, refl, e)
-turned_truth (Some false) z e = (false, refl, e)
-
-truths_chosen : (u a b : Option Bool) → chosen u (truths a) (truths b) ≡ truths (chosen u a b)
-truths_chosen None a b = refl
-truths_chosen (Some true) a b = refl
-truths_chosen (Some false) a b = refl
 
 -- ---- pointers and places
 
@@ -135,29 +127,26 @@ side_found : (w : Setting) (x : Side) (t : LogicTerm) → IsSide w x t → SideF
 side_found w (OfNumber c) t f = subst (λ m. found_by m (PointerFound w.plan w.now.scope (sorts_held w.held) t) (TermFound w.plan w.now.scope (sorts_held w.held) t)) (sym f.0) f.1
 side_found w (OfPointer c) t f = subst (λ m. found_by m (PointerFound w.plan w.now.scope (sorts_held w.held) t) (TermFound w.plan w.now.scope (sorts_held w.held) t)) (sym f.0) f.1
 
-module _ (w : Setting) (stands : Stands w) (ranges : RangesHold w.plan (sorts_held w.held) w.seen w.now w.names) where
-  -- what is known where code runs
-  pub record Ready (rs : List MonType) (regs : List Value) : Type 0 where
-    pub low : w.low ≤ length rs
-    pub near : Same w.low w.regs regs
+-- what is known where code runs
+pub record Ready (w : Setting) (rs : List MonType) (regs : List Value) : Type 0 where
+  pub low : w.low ≤ length rs
+  pub near : Same w.low w.regs regs
 
-  ready_after : (rs js : List MonType) (regs mid : List Value) → length rs ≤ length js → Ready rs regs → Same (length rs) regs mid → Ready js mid
-  ready_after rs js regs mid le r s = record { low = omega (arith, r.low, le); near = same_trans w.low (length rs) w.regs regs mid r.low r.near s }
+ready_after : (w : Setting) (rs js : List MonType) (regs mid : List Value) → length rs ≤ length js → Ready w rs regs → Same (length rs) regs mid → Ready w js mid
+ready_after w rs js regs mid le r s = record { low = omega (arith, r.low, le); near = same_trans w.low (length rs) w.regs regs mid r.low r.near s }
 
-  abbrev tcode : LogicTerm → List Reading → List MonType → Code
-  tcode t known rs = term_code w.unit w.bound w.plan t w.held known rs
+abbrev tcode : Setting → LogicTerm → List Reading → List MonType → Code
+tcode w t known rs = term_code w.unit w.bound w.plan t w.held known rs
 
-  abbrev pcode : Predicate → List Reading → List MonType → Code
-  pcode q known rs = pred_code w.unit w.bound w.plan q w.held known rs
+abbrev pcode : Setting → Predicate → List Reading → List MonType → Code
+pcode w q known rs = pred_code w.unit w.bound w.plan q w.held known rs
 
-  abbrev lcode : LogicTerm → List Reading → List MonType → PointerCode
-  lcode t known rs = pointer_code w.unit w.bound w.plan t w.held known rs
+abbrev lcode : Setting → LogicTerm → List Reading → List MonType → PointerCode
+lcode w t known rs = pointer_code w.unit w.bound w.plan t w.held known rs
 
+module _ (w : Setting) (stands : Stands w) (ranges : RangesHold w.seen w.now w.names) where
   abbrev val : LogicTerm → Option ℤ
   val = value w stands ranges
-
-  abbrev tells : Predicate → Option ℤ
-  tells p = truths (says p w.now w.names)
 
   -- ---- relations and chains
 
@@ -177,14 +166,6 @@ module _ (w : Setting) (stands : Stands w) (ranges : RangesHold w.plan (sorts_he
       and_true true = refl
       and_true false = refl
 
-  not_codes : (p : Predicate) (c : Code) (rs : List MonType) (regs : List Value) → Codes w c (tells p) rs regs → (o : Option Bool) → o ≡ turned (says p w.now w.names)
-      → Codes w (code_with_value (Binary mon.Eq I32 c.value (Constant I32 (pos 0))) c) (truths o) rs regs
-  not_codes p c rs regs h o is =
-      changed w c (Binary mon.Eq I32 c.value (Constant I32 (pos 0))) (tells p) (truths o) rs regs h (ap (λ o. is_some (truths o)) is ∙ turned_there (says p w.now w.names))
-      (λ later has z e.
-      let i = turned_truth (says p w.now w.names) z (sym (ap truths is) ∙ e) in
-      operation w mon.Eq I32 c.value (Constant I32 (pos 0)) later (truth i.0) (pos 0) z refl (has (truth i.0) i.1) (constant_has w I32 (pos 0) later refl) i.2)
-
   lazy_last : (u : Option Bool) → chosen u (Some true) (Some false) ≡ u
   lazy_last None = refl
   lazy_last (Some true) = refl
@@ -194,20 +175,12 @@ module _ (w : Setting) (stands : Stands w) (ranges : RangesHold w.plan (sorts_he
   last_says : (r : Relation) (t u : LogicTerm) (at : Place) → said_by (chain (term t w.now w.names) (Linked at r u NoLink) w.now w.names 0) ≡ said_by (related w.now.store r (term t w.now w.names) (term u w.now w.names) 0)
   last_says r t u at = chain_says r (term t w.now w.names) u NoLink w.now w.names ∙ lazy_last (said_by (related w.now.store r (term t w.now w.names) (term u w.now w.names) 0))
 
-  -- the right side has its code wherever it is asked
-  right_asked : (c : Connective) (a b : Predicate) (known : List Reading) → PredicateRanged w.seen a → PredicateFound w.plan w.now.scope (sorts_held w.held) a → AllRead w.now known
-      → (C : Type 0) → (AllRead w.now (known_at_right c known a) → C) → RightCodes w c (says a w.now w.names) C
-  right_asked And a b known q f all C go = λ x p. go (known_right w.plan (sorts_held w.held) w.seen w.now w.names (stands_sorted w stands) stands.sound.together And known a q f all x p)
-  right_asked Or a b known q f all C go = λ x p. go (known_right w.plan (sorts_held w.held) w.seen w.now w.names (stands_sorted w stands) stands.sound.together Or known a q f all x p)
-  right_asked Implies a b known q f all C go = λ x p. go (known_right w.plan (sorts_held w.held) w.seen w.now w.names (stands_sorted w stands) stands.sound.together Implies known a q f all x p)
-  right_asked Iff a b known q f all C go = go all
-  right_asked Xor a b known q f all C go = go all
-
   -- how many registers the operands of an operator take
-  term_room : (at : Place) (t : Option PlainType) (r : Range) (op : BinOp) (a b : LogicTerm) (known : List Reading) (rs : List MonType) → length (tcode b known (tcode a known rs).used).used ≤ length (tcode (logic.Binary at t r op a b) known rs).used
+  term_room : (at : Place) (t : Option PlainType) (r : Range) (op : BinOp) (a b : LogicTerm) (known : List Reading) (rs : List MonType)
+      → length (tcode w b known (tcode w a known rs).used).used ≤ length (tcode w (logic.Binary at t r op a b) known rs).used
   term_room at t r op a b known rs =
-      let x = tcode a known rs in
-      let y = tcode b known x.used in
+      let x = tcode w a known rs in
+      let y = tcode w b known x.used in
       operated_grows (is_total op (range_of b)) op (type_of_width (width_of_range r)) (type_of_width (working op (width_of_range r) (width_of a) (width_of b))) (type_of b) x y
       (binary_value op (type_of_width (width_of_range r)) (type_of_width (working op (width_of_range r) (width_of a) (width_of b))) (type_of a) (type_of b) (range_of b) x.value y.value)
 
@@ -290,409 +263,390 @@ module _ (w : Setting) (stands : Stands w) (ranges : RangesHold w.plan (sorts_he
           by (Some x) None = refl
           by (Some x) (Some y) = refl
 
-  -- ---- everything
+-- ---- steps
 
-  mutual
-    pub term_does : (t : LogicTerm) → TermRanged w.seen t → TermFound w.plan w.now.scope (sorts_held w.held) t → (known : List Reading) → AllRead w.now known → (rs : List MonType) (regs : List Value) → Ready rs regs
-        → length (tcode t known rs).used ≤ length regs
-        → Codes w (tcode t known rs) (val t) rs regs
-    term_does (logic.Number at t r n) q f known all rs regs ready room = number_codes w stands ranges r n rs regs
-    term_does (logic.Letter at t r n) q f known all rs regs ready room = number_codes w stands ranges r n rs regs
-    term_does (logic.Variable at t r x) q f known all rs regs ready room = variable_codes w stands ranges at t r x q f rs regs ready.low ready.near known all room
-    term_does (logic.Unary at t r op a) q f known all rs regs ready room = unary_codes w stands ranges at t r op a q f (tcode a known rs) rs regs (term_does a q.1 f known all rs regs ready room)
-    term_does (logic.Binary at t r op a b) q f known all rs regs ready room =
-        let x = tcode a known rs in
-        let y = tcode b known x.used in
-        let gx = term_grows w.unit w.bound w.plan a w.held known rs in
-        let gy = term_grows w.unit w.bound w.plan b w.held known x.used in
-        let gz = term_room at t r op a b known rs in
-        let cx = term_does a q.1 f.0 known all rs regs ready (omega (arith, gy, gz, room)) in
-        let cy = term_does b q.2 f.1 known all x.used cx.end (ready_after rs x.used regs cx.end gx ready cx.same) (omega (arith, gz, room, cx.same.long)) in
-        binary_codes w stands ranges at t r op a b q f x y rs regs (both_run w x y (val a) (val b) rs regs gx gy cx cy) (omega (arith, gx, gy)) room
-    term_does (logic.Cast at t r to a) q f known all rs regs ready room = cast_codes w stands ranges at t r to a q f (tcode a known rs) rs regs (term_does a q.1 f.1 known all rs regs ready room)
-    term_does (logic.Choice at t r c a b) q f known all rs regs ready room =
-        let more = known ++ sure_readings c in
-        let z = pcode c known rs in
-        let x = tcode a more z.used in
-        let y = tcode b more x.used in
-        let gz = pred_grows w.unit w.bound w.plan c w.held known rs in
-        let gx = term_grows w.unit w.bound w.plan a w.held more z.used in
-        let gy = term_grows w.unit w.bound w.plan b w.held more x.used in
-        let two = length-append y.used (I32 ∷ type_of_width (width_of_range r) ∷ []) in
-        let cz = pred_does c q.1 f.0 known all rs regs ready (omega (arith, gx, gy, two, room)) in
-        choice_codes w stands ranges at t r c a b q f z x y rs regs gz gx gy (omega (arith, two, room)) cz
-        (λ p. term_does a q.2 f.1 more (read-append w.now known (sure_readings c) all (pred_read w.plan (sorts_held w.held) w.seen w.now w.names (stands_sorted w stands) stands.sound.together c q.1 f.0 true p)) z.used cz.end
-        (ready_after rs z.used regs cz.end gz ready cz.same)
-        (omega (arith, gy, two, room, cz.same.long)))
-        (λ p. term_does b q.3 f.2 more (read-append w.now known (sure_readings c) all (pred_read w.plan (sorts_held w.held) w.seen w.now w.names (stands_sorted w stands) stands.sound.together c q.1 f.0 false p)) x.used cz.end
-        (ready_after rs x.used regs cz.end (omega (arith, gz, gx)) ready cz.same)
-        (omega (arith, two, room, cz.same.long)))
-    term_does (logic.Deref at t r a) q f known all rs regs ready room =
-        let c = lcode a known rs in
-        let gc = pointer_grows w.unit w.bound w.plan a w.held known rs in
-        let h = pointer_does a q.1 f.1 known all rs regs ready (omega (arith, room, length-append c.used (I32 ∷ []))) in
-        read_codes (logic.Deref at t r a) f q t f.0 (as_address (term a w.now w.names)) refl c (range_of a) rs regs gc room h
-    term_does (logic.Member at t r d a) q f known all rs regs ready room =
-        let c = place_code w.unit w.bound w.plan a w.held known rs in
-        let gc = place_grows w.unit w.bound w.plan a w.held known rs in
-        let m = member_parts t d (address_range a) r q.0 in
-        let h = place_does a q.1 f.1 m.0 m.2 known all rs regs ready (omega (arith, room, length-append c.used (I32 ∷ []))) in
-        read_codes (logic.Member at t r d a) f q t f.0 (option_map (λ x. address_farther x (pos d)) (place a w.now w.names)) refl (member_code d c) m.1 rs regs gc room
-        (member_codes w d c (place a w.now w.names) m.0 m.1 rs regs m.3 h)
-    term_does (logic.Difference at t r n a b) q f known all rs regs ready room =
-        let c = lcode a known rs in
-        let d = lcode b known c.used in
-        let gc = pointer_grows w.unit w.bound w.plan a w.held known rs in
-        let gd = pointer_grows w.unit w.bound w.plan b w.held known c.used in
-        let six = length-append d.used (I32 ∷ I32 ∷ Ptr ∷ Ptr ∷ I64 ∷ I64 ∷ []) in
-        let h = pointer_does a q.1 f.1 known all rs regs ready (omega (arith, gd, six, room)) in
-        let g = pointer_does b q.2 f.2 known all c.used h.end (ready_after rs c.used regs h.end gc ready h.same) (omega (arith, six, room, h.same.long)) in
-        apart_codes at t r n a b q f c d rs regs (omega (arith, gc, gd)) room
-        (both_pointers w c d (as_address (term a w.now w.names)) (as_address (term b w.now w.names)) (range_of a) (range_of b) rs regs gc gd h g)
-    term_does (logic.Told at t r g a) q f known all rs regs ready room =
-        let c = lcode a known rs in
-        let gc = pointer_grows w.unit w.bound w.plan a w.held known rs in
-        let h = pointer_does a q.1 f.1 known all rs regs ready (omega (arith, room, length-append c.used (I32 ∷ type_of_fact g ∷ []))) in
-        told_number_codes w stands.store_is g f.0 (width_of_range r) c (range_of a) rs regs gc room (as_address (term a w.now w.names)) h (λ z e. term_fits w stands ranges (logic.Told at t r g a) f q z e)
-    term_does (logic.Named at t r x) q f known all rs regs ready room =
-        held_codes w stands x.decl (type_of_width (width_of_range r)) f (λ z e. wrap_in (width_of_range r) z (term_fits w stands ranges (logic.Named at t r x) f q z e)) rs regs ready.low ready.near
-    term_does (logic.At at t r Here a) q f known all rs regs ready room =
-        let c = tcode a known rs in
-        let two = length-append c.used (I32 ∷ type_of a ∷ []) in
-        let h = term_does a q.1 f known all rs regs ready (omega (arith, two, room)) in
-        settled_runs w (type_of a) c (val a) rs regs (term_grows w.unit w.bound w.plan a w.held known rs) (omega (arith, two, room)) h
-    term_does (logic.At at t r Pre a) q f known all rs regs ready room = kept_codes w stands None a f.0 rs regs ready.low ready.near f.1 f.2
-    term_does (logic.At at t r (Marked l) a) q f known all rs regs ready room = kept_codes w stands (Some l) a f.0 rs regs ready.low ready.near f.1 f.2
-    term_does _ q f known all rs regs ready room = absurd f
+with_stands : (w : Setting) (n : ℕ) → Stands w → Stands (with_steps n w)
+with_stands w n st = record {
+  store_is = st.store_is;
+  points = st.points;
+  held = λ x h e. let i = st.held x h e in record { value = i.value; sorted = i.sorted; starts = i.starts; is = i.is; holds = i.holds };
+  keeps = λ at k e. let i = st.keeps at k e in record { below = i.below; gives = i.gives };
+  sound = st.sound;
+}
 
-    pub pointer_does : (t : LogicTerm) → TermRanged w.seen t → PointerFound w.plan w.now.scope (sorts_held w.held) t → (known : List Reading) → AllRead w.now known → (rs : List MonType) (regs : List Value) → Ready rs regs
-        → length (lcode t known rs).used ≤ length regs
-        → PointerCodes w (lcode t known rs) (as_address (term t w.now w.names)) (range_of t) rs regs
-    pointer_does (logic.Variable at t r x) q f known all rs regs ready room =
-        there_codes (is_known known (record { decl = x.decl; kind = term_type t })) t f.0 r (option_map address_of (start_of (find x.decl w.now.scope))) (start_pointer (pointer_to w.unit w.bound x.decl) rs) offset_range q rs regs
-        (omega arith) room (λ is u e. known_place known all t x.decl f.1 f.2 is u e) (variable_place x f.1 f.2 rs regs ready.low ready.near)
-    pointer_does (logic.Null at t r) q f known all rs regs ready room =
-        start_codes w null Null (Some null_address) r rs regs refl tt (zero_lies w r q) (λ later s. refl)
-    pointer_does (logic.Deref at t r a) q f known all rs regs ready room =
-        let c = lcode a known rs in
-        let gc = pointer_grows w.unit w.bound w.plan a w.held known rs in
-        let gt = there_grows false t c in
-        there_codes false t f.0 r (as_address (term a w.now w.names)) c (range_of a) q.0 rs regs gc room (λ is u e. absurd cc) (pointer_does a q.1 f.1 known all rs regs ready (omega (arith, gt, room)))
-    pointer_does (logic.Member at t r d a) q f known all rs regs ready room =
-        let c = place_code w.unit w.bound w.plan a w.held known rs in
-        let gc = place_grows w.unit w.bound w.plan a w.held known rs in
-        let gt = there_grows false t (member_code d c) in
-        let m = member_parts t d (address_range a) r q.0 in
-        there_codes false t f.0 r (option_map (λ x. address_farther x (pos d)) (place a w.now w.names)) (member_code d c) m.1 m.4 rs regs gc room (λ is u e. absurd cc)
-        (member_codes w d c (place a w.now w.names) m.0 m.1 rs regs m.3 (place_does a q.1 f.1 m.0 m.2 known all rs regs ready (omega (arith, gt, room))))
-    pointer_does (logic.Address at t r a) q f known all rs regs ready room =
-        subst (λ o. PointerCodes w (place_code w.unit w.bound w.plan a w.held known rs) o r rs regs) (sym (address_back (place a w.now w.names))) (place_does a q.1 f r q.0 known all rs regs ready room)
-    pointer_does (logic.Moved at t r op n a b) q f known all rs regs ready room =
-        let c = lcode a known rs in
-        let d = tcode b known c.used in
-        let gc = pointer_grows w.unit w.bound w.plan a w.held known rs in
-        let gd = term_grows w.unit w.bound w.plan b w.held known c.used in
-        let h = pointer_does a q.1 f.0 known all rs regs ready (omega (arith, gd, room)) in
-        let g = term_does b q.2 f.1 known all c.used h.end (ready_after rs c.used regs h.end gc ready h.same) (omega (arith, room, h.same.long)) in
-        subst (λ o. PointerCodes w (moved_code op n c (type_of b) d) o r rs regs) (sym (moved_is op n (term a w.now w.names) (term b w.now w.names)))
-        (moved_codes w op n c (type_of b) d (as_address (term a w.now w.names)) (val b) (range_of a) (range_of b) r rs regs q.0 (λ z e. term_lies w stands ranges b f.1 q.2 z e) (λ z e. wide b f.1 q.2 z e) gc gd h g)
-    pointer_does (logic.Cast at t r Integers a) q f known all rs regs ready room = absurd f.0
-    pointer_does (logic.Cast at t r (OfC to) a) q f known all rs regs ready room =
-        let h = pointer_does a q.1 f.1 known all rs regs ready room in
-        let same_range : range_of a ≡ r = some_same (range_of a) r (ap (λ k. cast_range (OfC k) (range_of a)) (sym f.0.1) ∙ q.0) in
-        subst (λ o. PointerCodes w (lcode a known rs) o r rs regs) (cast_keeps to f.0.0 f.0.1 (term a w.now w.names))
-        (subst (λ r. PointerCodes w (lcode a known rs) (as_address (term a w.now w.names)) r rs regs) same_range h)
-    pointer_does (logic.Choice at t r c a b) q f known all rs regs ready room =
-        let more = known ++ sure_readings c in
-        let z = pcode c known rs in
-        let x = lcode a more z.used in
-        let y = lcode b more x.used in
-        let gz = pred_grows w.unit w.bound w.plan c w.held known rs in
-        let gx = pointer_grows w.unit w.bound w.plan a w.held more z.used in
-        let gy = pointer_grows w.unit w.bound w.plan b w.held more x.used in
-        let three = length-append y.used (I32 ∷ Ptr ∷ I128 ∷ []) in
-        let cz = pred_does c q.1 f.0 known all rs regs ready (omega (arith, gx, gy, three, room)) in
-        subst (λ o. PointerCodes w (branch_pointer z x y) o r rs regs) (sym (choice_address c a b w.now w.names))
-        (subst (λ r. PointerCodes w (branch_pointer z x y) (chosen (says c w.now w.names) (as_address (term a w.now w.names)) (as_address (term b w.now w.names))) r rs regs) q.0
-        (branch_pointer_codes w z x y (says c w.now w.names) (as_address (term a w.now w.names)) (as_address (term b w.now w.names)) (range_of a) (range_of b) rs z.used x.used regs gz (omega (arith, gz, gx)) (omega (arith, gz, gx, gy)) gy room cz
-        (λ p. pointer_does a q.2 f.1 more (read-append w.now known (sure_readings c) all (pred_read w.plan (sorts_held w.held) w.seen w.now w.names (stands_sorted w stands) stands.sound.together c q.1 f.0 true p)) z.used cz.end
-        (ready_after rs z.used regs cz.end gz ready cz.same)
-        (omega (arith, gy, three, room, cz.same.long)))
-        (λ p. pointer_does b q.3 f.2 more (read-append w.now known (sure_readings c) all (pred_read w.plan (sorts_held w.held) w.seen w.now w.names (stands_sorted w stands) stands.sound.together c q.1 f.0 false p)) x.used cz.end
-        (ready_after rs x.used regs cz.end (omega (arith, gz, gx)) ready cz.same) (omega (arith, three, room, cz.same.long)))))
-    pointer_does (logic.Told at t r BaseAddr a) q f known all rs regs ready room =
-        let c = lcode a known rs in
-        let gc = pointer_grows w.unit w.bound w.plan a w.held known rs in
-        let h = pointer_does a q.1 f.1 known all rs regs ready (omega (arith, room, length-append c.used (I32 ∷ Ptr ∷ []))) in
-        subst (λ r. PointerCodes w (told_pointer c) (as_address (told w.now.store BaseAddr (as_address (term a w.now w.names)))) r rs regs) q.0
-        (told_pointer_codes w stands.store_is c (range_of a) rs regs gc room (as_address (term a w.now w.names)) h)
-    pointer_does (logic.Told at t r BlockLength a) q f known all rs regs ready room = absurd f.0
-    pointer_does (logic.Told at t r Offset a) q f known all rs regs ready room = absurd f.0
-    pointer_does (logic.Named at t r x) q f known all rs regs ready room = held_pointer_codes w stands x.decl r f q rs regs ready.low ready.near
-    pointer_does (logic.At at t r Here a) q f known all rs regs ready room =
-        subst (λ r. PointerCodes w (lcode a known rs) (as_address (term a w.now w.names)) r rs regs) q.0 (pointer_does a q.1 f known all rs regs ready room)
-    pointer_does (logic.At at t r Pre a) q f known all rs regs ready room = kept_pointer_codes w stands None a f.0 rs regs ready.low ready.near f.2 r f.3 f.1 q.0
-    pointer_does (logic.At at t r (Marked l) a) q f known all rs regs ready room = kept_pointer_codes w stands (Some l) a f.0 rs regs ready.low ready.near f.2 r f.3 f.1 q.0
-    pointer_does _ q f known all rs regs ready room = absurd f
+ready_with : (w : Setting) (n : ℕ) (rs : List MonType) (regs : List Value) → Ready w rs regs → Ready (with_steps n w) rs regs
+ready_with w n rs regs r = record { low = r.low; near = r.near }
 
-    place_does : (t : LogicTerm) → TermRanged w.seen t → PlaceFound w.plan w.now.scope (sorts_held w.held) t → (r : Range) → address_range t ≡ Some r → (known : List Reading) → AllRead w.now known → (rs : List MonType) (regs : List Value)
-        → Ready rs regs
-        → length (place_code w.unit w.bound w.plan t w.held known rs).used ≤ length regs → PointerCodes w (place_code w.unit w.bound w.plan t w.held known rs) (place t w.now w.names) r rs regs
-    place_does (logic.Variable at t r0 x) q f r e known all rs regs ready room =
-        subst (λ r. PointerCodes w (start_pointer (pointer_to w.unit w.bound x.decl) rs) (option_map address_of (start_of (find x.decl w.now.scope))) r rs regs) (some_same offset_range r e)
-        (variable_place x f.0 f.1 rs regs ready.low ready.near)
-    place_does (logic.Deref at t r0 a) q f r e known all rs regs ready room =
-        subst (λ r. PointerCodes w (lcode a known rs) (as_address (term a w.now w.names)) r rs regs) (some_same (range_of a) r e) (pointer_does a q.1 f known all rs regs ready room)
-    place_does (logic.Member at t r0 d a) q f r e known all rs regs ready room =
-        let m = address_parts d (address_range a) r e in
-        member_codes w d (place_code w.unit w.bound w.plan a w.held known rs) (place a w.now w.names) m.0 r rs regs m.2 (place_does a q.1 f m.0 m.1 known all rs regs ready room)
-    place_does _ q f r e known all rs regs ready room = absurd f
+-- no answer leaves more steps than there were
+says_left : (A : Answer) (n k : ℕ) (b : Bool) → steps_of A ≤ n → A ≡ Says b k → k ≤ n
+says_left A n k b le e = let s : steps_of A ≡ k = ap steps_of e in omega (arith, s, le)
 
-    zone_does : (z : Zone) → ZoneRanged w.seen z → ZoneFound w.plan w.now.scope (sorts_held w.held) z → (known : List Reading) → AllRead w.now known → (rs : List MonType) (regs : List Value) → Ready rs regs
-        → length (zone_code w.unit w.bound w.plan z w.held known rs).pointer.used ≤ length regs → ZoneCodes w (zone_code w.unit w.bound w.plan z w.held known rs) (zone z w.now w.names) rs regs
-    zone_does (logic.Object at n m a) q f known all rs regs ready room =
-        object_codes w n (lcode a known rs) (as_address (term a w.now w.names)) (range_of a) rs regs (pointer_does a q f.1 known all rs regs ready room)
-    zone_does (logic.Elements at n m a lo hi) q f known all rs regs ready room =
-        let c = lcode a known rs in
-        let x = tcode lo known c.used in
-        let y = tcode hi known x.used in
-        let gc = pointer_grows w.unit w.bound w.plan a w.held known rs in
-        let gx = term_grows w.unit w.bound w.plan lo w.held known c.used in
-        let gy = term_grows w.unit w.bound w.plan hi w.held known x.used in
-        let h = pointer_does a q.1 f.1 known all rs regs ready (omega (arith, gx, gy, room)) in
-        let g = term_does lo q.2 f.2 known all c.used h.end (ready_after rs c.used regs h.end gc ready h.same) (omega (arith, gy, room, h.same.long)) in
-        let e = term_does hi q.3 f.3 known all x.used g.end (ready_after c.used x.used h.end g.end gx (ready_after rs c.used regs h.end gc ready h.same) g.same) (omega (arith, room, h.same.long, g.same.long)) in
-        subst (λ o. ZoneCodes w (elements_code n c (type_of lo) (type_of hi) x y) o rs regs) (sym (elements_is n (term a w.now w.names) (term lo w.now w.names) (term hi w.now w.names)))
-        (elements_codes w n c (type_of lo) (type_of hi) x y (as_address (term a w.now w.names)) (val lo) (val hi) (range_of a) (range_of lo) (range_of hi) rs regs q.0
-        (λ z e. term_lies w stands ranges lo f.2 q.2 z e) (λ z e. term_lies w stands ranges hi f.3 q.3 z e) (λ z e. wide lo f.2 q.2 z e) (λ z e. wide hi f.3 q.3 z e) gc gx gy h g e)
+nothing_left : (A : Answer) (n k : ℕ) → steps_of A ≤ n → A ≡ SaysNothing k → k ≤ n
+nothing_left A n k le e = let s : steps_of A ≡ k = ap steps_of e in omega (arith, s, le)
 
-    zones_does : (zs : Zones) → ZonesRanged w.seen zs → ZonesFound w.plan w.now.scope (sorts_held w.held) zs → (known : List Reading) → AllRead w.now known → (rs : List MonType) (regs : List Value) → Ready rs regs
-        → length (zones_code w.unit w.bound w.plan zs w.held known rs).used ≤ length regs → ZonesCodes w (zones_code w.unit w.bound w.plan zs w.held known rs) (zones zs w.now w.names) rs regs
-    zones_does NoZone q f known all rs regs ready room = no_zones_codes w rs regs
-    zones_does (Another z rest) q f known all rs regs ready room =
-        let c = zone_code w.unit w.bound w.plan z w.held known rs in
-        let ds = zones_code w.unit w.bound w.plan rest w.held known c.pointer.used in
-        let gz = zone_grows w.unit w.bound w.plan z w.held known rs in
-        let gr = zones_grows w.unit w.bound w.plan rest w.held known c.pointer.used in
-        let h = zone_does z q.0 f.0 known all rs regs ready (omega (arith, gr, room)) in
-        another_codes w c ds (zone z w.now w.names) (zones rest w.now w.names) rs regs gz gr h
-        (zones_does rest q.1 f.1 known all c.pointer.used h.end (ready_after rs c.pointer.used regs h.end gz ready h.same) (omega (arith, room, h.same.long)))
+-- what is read in a condition that takes no step
+condition_read : (w : Setting) (stands : Stands w) (c : Predicate) → IsQuiet c → PredicateRanged w.seen c → PredicateFound w.plan w.now.scope (sorts_held w.held) c → (v : Bool) → says c w.now w.names ≡ Some v → AllRead w.now (sure_readings c)
+condition_read w stands c quiet q f v p =
+    pred_read w.plan (sorts_held w.held) w.seen w.now w.names (stands_sorted w stands) stands.sound.together c q f 0 v 0 (pred_quiet c quiet w.now w.names 0 ∙ ap (λ u. said u 0) p)
 
-    chain_does : (t : LogicTerm) (x : Side) (l : Links) → TermRanged w.seen t → IsSide w x t → LinksRanged w.seen l → LinksFound w.plan w.now.scope (sorts_held w.held) t l → (known : List Reading) → AllRead w.now known
-        → (rs : List MonType) (regs : List Value)
-        → Ready rs regs → length rs ≤ length (used_by x) → SideCodes w x t rs regs → length (chain_code w.unit w.bound w.plan t x l w.held known).used ≤ length regs
-        → Codes w (chain_code w.unit w.bound w.plan t x l w.held known) (truths (said_by (chain (term t w.now w.names) l w.now w.names 0))) rs regs
-    chain_does t x NoLink q f h g known all rs regs ready gx cx room = record {
-      end = cx.end;
-      same = cx.same;
-      is = cx.is;
-      holds = λ later s. record { flag_is = refl; value_is = λ z e. ap (λ z. Some (Integer z)) (some_same (pos 1) z e) };
-    }
-    chain_does t x (Linked at r u NoLink) q f h g known all rs regs ready gx cx room =
-        let c = lcode u known (used_by x) in
-        let d = tcode u known (used_by x) in
-        let y = side_by (is_pointer_term u) c d in
-        let gy = side_grows (is_pointer_term u) c d (used_by x) (pointer_grows w.unit w.bound w.plan u w.held known (used_by x)) (term_grows w.unit w.bound w.plan u w.held known (used_by x)) in
-        let gr = related_grows r t u x y in
-        let next = ready_after rs (used_by x) regs cx.end gx ready cx.same in
-        let cy = side_made w u c d (used_by x) cx.end g.1 (λ f room. pointer_does u h.0 f known all (used_by x) cx.end next room) (λ f room. term_does u h.0 f known all (used_by x) cx.end next room) (omega (arith, gr, room, cx.same.long)) in
-        subst (λ o. Codes w (related_code r t u x y) (truths o) rs regs) (sym (last_says r t u at))
-        (related_codes w stands ranges r t u rs regs q h.0 x y f cy.sort g.0 (omega (arith, gx, gy)) room (both_sides w x y t u rs regs gx gy cx cy.codes)).codes
-    chain_does t x (Linked at r u (Linked at2 r2 v rest)) q f h g known all rs regs ready gx cx room =
-        let c = lcode u known (used_by x) in
-        let d = tcode u known (used_by x) in
-        let y = side_by (is_pointer_term u) c d in
-        let z = related_code r t u x y in
-        let more = known ++ (sure_readings_of_term t ++ sure_readings_of_term u) in
-        let links = Linked at2 r2 v rest in
-        let start = again y z.used in
-        let tail = chain_code w.unit w.bound w.plan u start links w.held more in
-        let gy = side_grows (is_pointer_term u) c d (used_by x) (pointer_grows w.unit w.bound w.plan u w.held known (used_by x)) (term_grows w.unit w.bound w.plan u w.held known (used_by x)) in
-        let gr = related_grows r t u x y in
-        let ga = again_used y z.used in
-        let gd = chain_grows w.unit w.bound w.plan u start links w.held more in
-        let gc = connected_grows And z tail in
-        let next = ready_after rs (used_by x) regs cx.end gx ready cx.same in
-        let cy = side_made w u c d (used_by x) cx.end g.1 (λ f room. pointer_does u h.0 f known all (used_by x) cx.end next room) (λ f room. term_does u h.0 f known all (used_by x) cx.end next room)
-        (omega (arith, gr, ga, gd, gc, room, cx.same.long)) in
-        let cz = related_codes w stands ranges r t u rs regs q h.0 x y f cy.sort g.0 (omega (arith, gx, gy)) (omega (arith, ga, gd, gc, room)) (both_sides w x y t u rs regs gx gy cx cy.codes) in
-        let whole = chain_says r (term t w.now w.names) u links w.now w.names in
-        subst (λ o. Codes w (connected_code And z tail) (truths o) rs regs) (sym whole)
-        (connected_runs w And z tail (said_by (related w.now.store r (term t w.now w.names) (term u w.now w.names) 0)) (said_by (chain (term u w.now w.names) links w.now w.names 0))
-        rs regs (omega (arith, gx, gy, gr)) (omega (arith, ga, gd)) room cz.codes
-        (λ b p.
-        let i = related_there w.now.store r (term t w.now w.names) (term u w.now w.names) b p in
-        let a = again_side w stands u y z.used cz.codes.end cz.second i.1.0 i.1.1 cy.sort in
-        chain_does u start (Linked at2 r2 v rest) h.0 a.sort h.1 g.2 more
-        (read-append w.now known (sure_readings_of_term t ++ sure_readings_of_term u) all
-        (relation_read w.plan (sorts_held w.held) w.seen w.now w.names (stands_sorted w stands) stands.sound.together r t u q h.0 (side_found w x t f) g.1 b p)) z.used cz.codes.end
-        (ready_after rs z.used regs cz.codes.end (omega (arith, gx, gy, gr)) ready cz.codes.same) (omega (arith, ga)) a.codes (omega (arith, gc, room, cz.codes.same.long))))
+-- the part inside guards, wherever these names are held and these variables known
+abbrev Within : Setting → (List Held → List Reading → List MonType → Code) → (Environment → ℕ → Answer) → (Seen → Type 0) → (Sorted → Type 0) → Type 0
+Within w inner P R F =
+    (hs : List Held) (m : Seen) (e : Environment) (low : ℕ) (base : List Value) (n : ℕ) (known : List Reading) → AllRead w.now known → (js : List MonType) (regs : List Value) → Stands (moved w hs m e low base n) → NamesFit m w.now e → R m
+    → F (sorts_held hs)
+    → low ≤ length js → Same low base regs → length (inner hs known js).used ≤ length regs → n ≤ w.turns → Told (moved w hs m e low base n) (inner hs known js) (P e n) js regs
 
-    pred_does : (p : Predicate) → PredicateRanged w.seen p → PredicateFound w.plan w.now.scope (sorts_held w.held) p → (known : List Reading) → AllRead w.now known → (rs : List MonType) (regs : List Value) → Ready rs regs
-        → length (pcode p known rs).used ≤ length regs
-        → Codes w (pcode p known rs) (tells p) rs regs
-    pred_does (logic.Truth at b) q f known all rs regs ready room = sure_codes w (Constant I32 (truth b)) (Some (truth b)) (truth b) rs regs refl (λ later s. refl)
-    pred_does (logic.NonZero at t) q f known all rs regs ready room = nonzero_codes t q f (tcode t known rs) rs regs (term_does t q f known all rs regs ready room)
-    pred_does (logic.Chain at t links) q f known all rs regs ready room =
-        let c = lcode t known rs in
-        let d = tcode t known rs in
-        let x = side_by (is_pointer_term t) c d in
-        let gx = side_grows (is_pointer_term t) c d rs (pointer_grows w.unit w.bound w.plan t w.held known rs) (term_grows w.unit w.bound w.plan t w.held known rs) in
-        let gl = chain_grows w.unit w.bound w.plan t x links w.held known in
-        let cx = side_made w t c d rs regs f.0 (λ f room. pointer_does t q.0 f known all rs regs ready room) (λ f room. term_does t q.0 f known all rs regs ready room) (omega (arith, gl, room)) in
-        chain_does t x links q.0 cx.sort q.1 f.1 known all rs regs ready gx cx.codes room
-    pred_does (logic.Not at p) q f known all rs regs ready room = not_codes p (pcode p known rs) rs regs (pred_does p q f known all rs regs ready room) (says (logic.Not at p) w.now w.names) (not_says w.plan (sorts_held w.held) p w.now w.names f)
-    pred_does (logic.Connected at c a b) q f known all rs regs ready room =
-        let x = pcode a known rs in
-        let ks = known_at_right c known a in
-        let y = pcode b ks x.used in
-        let gx = pred_grows w.unit w.bound w.plan a w.held known rs in
-        let gy = pred_grows w.unit w.bound w.plan b w.held ks x.used in
-        let gc = connected_grows c x y in
-        let cx = pred_does a q.0 f.0 known all rs regs ready (omega (arith, gy, gc, room)) in
-        let right = λ (known_there : AllRead w.now ks). pred_does b q.1 f.1 ks known_there x.used cx.end (ready_after rs x.used regs cx.end gx ready cx.same) (omega (arith, gc, room, cx.same.long)) in
-        subst (λ o. Codes w (connected_code c x y) (truths o) rs regs)
-        (sym (connected_says c (pred a w.now w.names) (pred b w.now w.names) (pred_quiet w.plan (sorts_held w.held) a w.now w.names f.0) (pred_quiet w.plan (sorts_held w.held) b w.now w.names f.1)))
-        (connected_runs w c x y (says a w.now w.names) (says b w.now w.names) rs regs gx gy room cx (right_asked c a b known q.0 f.0 all (Codes w y (tells b) x.used cx.end) right))
-    pred_does (logic.Branch at c a b) q f known all rs regs ready room =
-        let more = known ++ sure_readings c in
-        let z = pcode c known rs in
-        let x = pcode a more z.used in
-        let y = pcode b more x.used in
-        let gz = pred_grows w.unit w.bound w.plan c w.held known rs in
-        let gx = pred_grows w.unit w.bound w.plan a w.held more z.used in
-        let gy = pred_grows w.unit w.bound w.plan b w.held more x.used in
-        let two = length-append y.used (I32 ∷ I32 ∷ []) in
-        let cz = pred_does c q.0 f.0 known all rs regs ready (omega (arith, gx, gy, two, room)) in
-        subst (λ o. Codes w (pcode (logic.Branch at c a b) known rs) o rs regs)
-        (truths_chosen (says c w.now w.names) (says a w.now w.names) (says b w.now w.names) ∙ sym (ap truths (branch_says w.plan (sorts_held w.held) c a b w.now w.names f.0 f.1 f.2)))
-        (branch_runs w I32 z x y (says c w.now w.names) (tells a) (tells b) rs z.used x.used regs gz (omega (arith, gz, gx)) (omega (arith, gz, gx, gy)) gy (omega (arith, two, room)) cz
-        (λ p. pred_does a q.1 f.1 more (read-append w.now known (sure_readings c) all (pred_read w.plan (sorts_held w.held) w.seen w.now w.names (stands_sorted w stands) stands.sound.together c q.0 f.0 true p)) z.used cz.end
-        (ready_after rs z.used regs cz.end gz ready cz.same)
-        (omega (arith, gy, two, room, cz.same.long)))
-        (λ p. pred_does b q.2 f.2 more (read-append w.now known (sure_readings c) all (pred_read w.plan (sorts_held w.held) w.seen w.now w.names (stands_sorted w stands) stands.sound.together c q.0 f.0 false p)) x.used cz.end
-        (ready_after rs x.used regs cz.end (omega (arith, gz, gx)) ready cz.same)
-        (omega (arith, two, room, cz.same.long))))
-    pred_does (logic.Asks at g z) q f known all rs regs ready room =
-        let c = zone_code w.unit w.bound w.plan z w.held known rs in
-        let gz = zone_grows w.unit w.bound w.plan z w.held known rs in
-        let h = zone_does z q f known all rs regs ready (omega (arith, room, length-append c.pointer.used (I32 ∷ []))) in
-        subst (λ o. Codes w (zone_asked g (alignment_of z) c) (truths o) rs regs)
-        (ap (λ m. option_map (asks_of g w.now.store m) (zone z w.now w.names)) (alignment_is w.plan w.now.scope (sorts_held w.held) z f) ∙ sym (said_again (option_map (asks_of g w.now.store (alignment_of z)) (zone z w.now w.names)) 0))
-        (asked_codes w stands.store_is g (alignment_of z) c rs regs gz room (zone z w.now w.names) h)
-    pred_does (logic.Separated at zs) q f known all rs regs ready room =
-        let c = zones_code w.unit w.bound w.plan zs w.held known rs in
-        let gz = zones_grows w.unit w.bound w.plan zs w.held known rs in
-        let h = zones_does zs q f known all rs regs ready (omega (arith, room, length-append c.used (I32 ∷ I32 ∷ []))) in
-        subst (λ o. Codes w (separated_code c) (truths o) rs regs) (sym (said_again (option_map all_apart (zones zs w.now w.names)) 0)) (separated_codes w c rs regs gz room (zones zs w.now w.names) h)
-    pred_does (logic.Quantified at g gs p) q f known all rs regs ready room = absurd f
+-- ---- everything
 
--- ---- the flag and the truth in registers
+mutual
+  pub term_does : (w : Setting) (stands : Stands w) (ranges : RangesHold w.seen w.now w.names) → w.target.steps ≤ w.turns → (t : LogicTerm) → TermRanged w.seen t → TermFound w.plan w.now.scope (sorts_held w.held) t → (known : List Reading)
+      → AllRead w.now known → (rs : List MonType) (regs : List Value) → Ready w rs regs
+      → length (tcode w t known rs).used ≤ length regs
+      → Codes w (tcode w t known rs) (value_of (term t w.now w.names)) rs regs
+  term_does w stands ranges lt (logic.Number at t r n) q f known all rs regs ready room = number_codes w stands ranges r n rs regs
+  term_does w stands ranges lt (logic.Letter at t r n) q f known all rs regs ready room = number_codes w stands ranges r n rs regs
+  term_does w stands ranges lt (logic.Variable at t r x) q f known all rs regs ready room = variable_codes w stands ranges at t r x q f rs regs ready.low ready.near known all room
+  term_does w stands ranges lt (logic.Unary at t r op a) q f known all rs regs ready room = unary_codes w stands ranges at t r op a q f (tcode w a known rs) rs regs (term_does w stands ranges lt a q.1 f known all rs regs ready room)
+  term_does w stands ranges lt (logic.Binary at t r op a b) q f known all rs regs ready room =
+      let x = tcode w a known rs in
+      let y = tcode w b known x.used in
+      let gx = term_grows w.unit w.bound w.plan a w.held known rs in
+      let gy = term_grows w.unit w.bound w.plan b w.held known x.used in
+      let gz = term_room w stands ranges at t r op a b known rs in
+      let cx = term_does w stands ranges lt a q.1 f.0 known all rs regs ready (omega (arith, gy, gz, room)) in
+      let cy = term_does w stands ranges lt b q.2 f.1 known all x.used cx.end (ready_after w rs x.used regs cx.end gx ready cx.same) (omega (arith, gz, room, cx.same.long)) in
+      binary_codes w stands ranges at t r op a b q f x y rs regs (both_run w x y (value_of (term a w.now w.names)) (value_of (term b w.now w.names)) rs regs gx gy cx cy) (omega (arith, gx, gy)) room
+  term_does w stands ranges lt (logic.Cast at t r to a) q f known all rs regs ready room = cast_codes w stands ranges at t r to a q f (tcode w a known rs) rs regs (term_does w stands ranges lt a q.1 f.1 known all rs regs ready room)
+  term_does w stands ranges lt (logic.Choice at t r c a b) q f known all rs regs ready room =
+      let more = known ++ sure_readings c in
+      let z = pcode w c known rs in
+      let x = tcode w a more z.used in
+      let y = tcode w b more x.used in
+      let gz = pred_grows w.unit w.bound w.plan c w.held known rs in
+      let gx = term_grows w.unit w.bound w.plan a w.held more z.used in
+      let gy = term_grows w.unit w.bound w.plan b w.held more x.used in
+      let two = length-append y.used (I32 ∷ type_of_width (width_of_range r) ∷ []) in
+      let quiet = pred_quiet c f.0 w.now w.names in
+      let told = pred_does w stands ranges lt c q.1 f.1 known all rs regs ready (omega (arith, gx, gy, two, room)) in
+      let cz = codes_of w z (says c w.now w.names) rs regs (subst (λ (A : Answer). Told w z A rs regs) (quiet w.target.steps) told) in
+      let there = λ (v : Bool) (p : says c w.now w.names ≡ Some v). read-append w.now known (sure_readings c) all (condition_read w stands c f.0 q.1 f.1 v p) in
+      choice_codes w stands ranges at t r c a b q f z x y rs regs gz gx gy (omega (arith, two, room)) cz
+      (λ p. term_does w stands ranges lt a q.2 f.2 more (there true p) z.used cz.end
+      (ready_after w rs z.used regs cz.end gz ready cz.same)
+      (omega (arith, gy, two, room, cz.same.long)))
+      (λ p. term_does w stands ranges lt b q.3 f.3 more (there false p) x.used cz.end
+      (ready_after w rs x.used regs cz.end (omega (arith, gz, gx)) ready cz.same)
+      (omega (arith, two, room, cz.same.long)))
+  term_does w stands ranges lt (logic.Deref at t r a) q f known all rs regs ready room =
+      let c = lcode w a known rs in
+      let gc = pointer_grows w.unit w.bound w.plan a w.held known rs in
+      let h = pointer_does w stands ranges lt a q.1 f.1 known all rs regs ready (omega (arith, room, length-append c.used (I32 ∷ []))) in
+      read_codes w stands ranges (logic.Deref at t r a) f q t f.0 (as_address (term a w.now w.names)) refl c (range_of a) rs regs gc room h
+  term_does w stands ranges lt (logic.Member at t r d a) q f known all rs regs ready room =
+      let c = place_code w.unit w.bound w.plan a w.held known rs in
+      let gc = place_grows w.unit w.bound w.plan a w.held known rs in
+      let m = member_parts t d (address_range a) r q.0 in
+      let h = place_does w stands ranges lt a q.1 f.1 m.0 m.2 known all rs regs ready (omega (arith, room, length-append c.used (I32 ∷ []))) in
+      read_codes w stands ranges (logic.Member at t r d a) f q t f.0 (option_map (λ x. address_farther x (pos d)) (place a w.now w.names)) refl (member_code d c) m.1 rs regs gc room
+      (member_codes w d c (place a w.now w.names) m.0 m.1 rs regs m.3 h)
+  term_does w stands ranges lt (logic.Difference at t r n a b) q f known all rs regs ready room =
+      let c = lcode w a known rs in
+      let d = lcode w b known c.used in
+      let gc = pointer_grows w.unit w.bound w.plan a w.held known rs in
+      let gd = pointer_grows w.unit w.bound w.plan b w.held known c.used in
+      let six = length-append d.used (I32 ∷ I32 ∷ Ptr ∷ Ptr ∷ I64 ∷ I64 ∷ []) in
+      let h = pointer_does w stands ranges lt a q.1 f.1 known all rs regs ready (omega (arith, gd, six, room)) in
+      let g = pointer_does w stands ranges lt b q.2 f.2 known all c.used h.end (ready_after w rs c.used regs h.end gc ready h.same) (omega (arith, six, room, h.same.long)) in
+      apart_codes w stands ranges at t r n a b q f c d rs regs (omega (arith, gc, gd)) room
+      (both_pointers w c d (as_address (term a w.now w.names)) (as_address (term b w.now w.names)) (range_of a) (range_of b) rs regs gc gd h g)
+  term_does w stands ranges lt (logic.Told at t r g a) q f known all rs regs ready room =
+      let c = lcode w a known rs in
+      let gc = pointer_grows w.unit w.bound w.plan a w.held known rs in
+      let h = pointer_does w stands ranges lt a q.1 f.1 known all rs regs ready (omega (arith, room, length-append c.used (I32 ∷ type_of_fact g ∷ []))) in
+      told_number_codes w stands.store_is g f.0 (width_of_range r) c (range_of a) rs regs gc room (as_address (term a w.now w.names)) h (λ z e. term_fits w stands ranges (logic.Told at t r g a) f q z e)
+  term_does w stands ranges lt (logic.Named at t r x) q f known all rs regs ready room =
+      held_codes w stands x.decl (type_of_width (width_of_range r)) f (λ z e. wrap_in (width_of_range r) z (term_fits w stands ranges (logic.Named at t r x) f q z e)) rs regs ready.low ready.near
+  term_does w stands ranges lt (logic.At at t r Here a) q f known all rs regs ready room =
+      let c = tcode w a known rs in
+      let two = length-append c.used (I32 ∷ type_of a ∷ []) in
+      let h = term_does w stands ranges lt a q.1 f known all rs regs ready (omega (arith, two, room)) in
+      settled_runs w (type_of a) c (value_of (term a w.now w.names)) rs regs (term_grows w.unit w.bound w.plan a w.held known rs) (omega (arith, two, room)) h
+  term_does w stands ranges lt (logic.At at t r Pre a) q f known all rs regs ready room = kept_codes w stands None a f.0 rs regs ready.low ready.near f.1 f.2
+  term_does w stands ranges lt (logic.At at t r (Marked l) a) q f known all rs regs ready room = kept_codes w stands (Some l) a f.0 rs regs ready.low ready.near f.1 f.2
+  term_does w stands ranges lt _ q f known all rs regs ready room = absurd f
 
-module _ (w : Setting) (rs : List MonType) (u : Option Bool) where
-  -- no step is taken
-  abbrev pub Still : Judgement → Type 0
-  Still j = Finishes w j.stmts (length rs) w.target.steps (IsJudged j.flag j.truth u)
+  pub pointer_does : (w : Setting) (stands : Stands w) (ranges : RangesHold w.seen w.now w.names) → w.target.steps ≤ w.turns → (t : LogicTerm) → TermRanged w.seen t → PointerFound w.plan w.now.scope (sorts_held w.held) t → (known : List Reading)
+      → AllRead w.now known → (rs : List MonType) (regs : List Value) → Ready w rs regs
+      → length (lcode w t known rs).used ≤ length regs
+      → PointerCodes w (lcode w t known rs) (as_address (term t w.now w.names)) (range_of t) rs regs
+  pointer_does w stands ranges lt (logic.Variable at t r x) q f known all rs regs ready room =
+      there_codes w stands ranges (is_known known (record { decl = x.decl; kind = term_type t })) t f.0 r (option_map address_of (start_of (find x.decl w.now.scope))) (start_pointer (pointer_to w.unit w.bound x.decl) rs) offset_range q rs regs
+      (omega arith) room (λ is u e. known_place w stands ranges known all t x.decl f.1 f.2 is u e) (variable_place w stands ranges x f.1 f.2 rs regs ready.low ready.near)
+  pointer_does w stands ranges lt (logic.Null at t r) q f known all rs regs ready room =
+      start_codes w null Null (Some null_address) r rs regs refl tt (zero_lies w r q) (λ later s. refl)
+  pointer_does w stands ranges lt (logic.Deref at t r a) q f known all rs regs ready room =
+      let c = lcode w a known rs in
+      let gc = pointer_grows w.unit w.bound w.plan a w.held known rs in
+      let gt = there_grows false t c in
+      there_codes w stands ranges false t f.0 r (as_address (term a w.now w.names)) c (range_of a) q.0 rs regs gc room (λ is u e. absurd cc) (pointer_does w stands ranges lt a q.1 f.1 known all rs regs ready (omega (arith, gt, room)))
+  pointer_does w stands ranges lt (logic.Member at t r d a) q f known all rs regs ready room =
+      let c = place_code w.unit w.bound w.plan a w.held known rs in
+      let gc = place_grows w.unit w.bound w.plan a w.held known rs in
+      let gt = there_grows false t (member_code d c) in
+      let m = member_parts t d (address_range a) r q.0 in
+      there_codes w stands ranges false t f.0 r (option_map (λ x. address_farther x (pos d)) (place a w.now w.names)) (member_code d c) m.1 m.4 rs regs gc room (λ is u e. absurd cc)
+      (member_codes w d c (place a w.now w.names) m.0 m.1 rs regs m.3 (place_does w stands ranges lt a q.1 f.1 m.0 m.2 known all rs regs ready (omega (arith, gt, room))))
+  pointer_does w stands ranges lt (logic.Address at t r a) q f known all rs regs ready room =
+      subst (λ o. PointerCodes w (place_code w.unit w.bound w.plan a w.held known rs) o r rs regs) (sym (address_back (place a w.now w.names))) (place_does w stands ranges lt a q.1 f r q.0 known all rs regs ready room)
+  pointer_does w stands ranges lt (logic.Moved at t r op n a b) q f known all rs regs ready room =
+      let c = lcode w a known rs in
+      let d = tcode w b known c.used in
+      let gc = pointer_grows w.unit w.bound w.plan a w.held known rs in
+      let gd = term_grows w.unit w.bound w.plan b w.held known c.used in
+      let h = pointer_does w stands ranges lt a q.1 f.0 known all rs regs ready (omega (arith, gd, room)) in
+      let g = term_does w stands ranges lt b q.2 f.1 known all c.used h.end (ready_after w rs c.used regs h.end gc ready h.same) (omega (arith, room, h.same.long)) in
+      subst (λ o. PointerCodes w (moved_code op n c (type_of b) d) o r rs regs) (sym (moved_is op n (term a w.now w.names) (term b w.now w.names)))
+      (moved_codes w op n c (type_of b) d (as_address (term a w.now w.names)) (value_of (term b w.now w.names)) (range_of a) (range_of b) r rs regs q.0 (λ z e. term_lies w stands ranges b f.1 q.2 z e) (λ z e. wide w stands ranges b f.1 q.2 z e) gc
+      gd h g)
+  pointer_does w stands ranges lt (logic.Cast at t r Integers a) q f known all rs regs ready room = absurd f.0
+  pointer_does w stands ranges lt (logic.Cast at t r (OfC to) a) q f known all rs regs ready room =
+      let h = pointer_does w stands ranges lt a q.1 f.1 known all rs regs ready room in
+      let same_range : range_of a ≡ r = some_same (range_of a) r (ap (λ k. cast_range (OfC k) (range_of a)) (sym f.0.1) ∙ q.0) in
+      subst (λ o. PointerCodes w (lcode w a known rs) o r rs regs) (cast_keeps to f.0.0 f.0.1 (term a w.now w.names))
+      (subst (λ r. PointerCodes w (lcode w a known rs) (as_address (term a w.now w.names)) r rs regs) same_range h)
+  pointer_does w stands ranges lt (logic.Choice at t r c a b) q f known all rs regs ready room =
+      let more = known ++ sure_readings c in
+      let z = pcode w c known rs in
+      let x = lcode w a more z.used in
+      let y = lcode w b more x.used in
+      let gz = pred_grows w.unit w.bound w.plan c w.held known rs in
+      let gx = pointer_grows w.unit w.bound w.plan a w.held more z.used in
+      let gy = pointer_grows w.unit w.bound w.plan b w.held more x.used in
+      let three = length-append y.used (I32 ∷ Ptr ∷ I128 ∷ []) in
+      let quiet = pred_quiet c f.0 w.now w.names in
+      let told = pred_does w stands ranges lt c q.1 f.1 known all rs regs ready (omega (arith, gx, gy, three, room)) in
+      let cz = codes_of w z (says c w.now w.names) rs regs (subst (λ (A : Answer). Told w z A rs regs) (quiet w.target.steps) told) in
+      let there = λ (v : Bool) (p : says c w.now w.names ≡ Some v). read-append w.now known (sure_readings c) all (condition_read w stands c f.0 q.1 f.1 v p) in
+      subst (λ o. PointerCodes w (branch_pointer z x y) o r rs regs) (sym (choice_address c a b w.now w.names))
+      (subst (λ r. PointerCodes w (branch_pointer z x y) (chosen (says c w.now w.names) (as_address (term a w.now w.names)) (as_address (term b w.now w.names))) r rs regs) q.0
+      (branch_pointer_codes w z x y (says c w.now w.names) (as_address (term a w.now w.names)) (as_address (term b w.now w.names)) (range_of a) (range_of b) rs z.used x.used regs gz (omega (arith, gz, gx)) (omega (arith, gz, gx, gy)) gy room cz
+      (λ p. pointer_does w stands ranges lt a q.2 f.2 more (there true p) z.used cz.end
+      (ready_after w rs z.used regs cz.end gz ready cz.same)
+      (omega (arith, gy, three, room, cz.same.long)))
+      (λ p. pointer_does w stands ranges lt b q.3 f.3 more (there false p) x.used cz.end
+      (ready_after w rs x.used regs cz.end (omega (arith, gz, gx)) ready cz.same) (omega (arith, three, room, cz.same.long)))))
+  pointer_does w stands ranges lt (logic.Told at t r BaseAddr a) q f known all rs regs ready room =
+      let c = lcode w a known rs in
+      let gc = pointer_grows w.unit w.bound w.plan a w.held known rs in
+      let h = pointer_does w stands ranges lt a q.1 f.1 known all rs regs ready (omega (arith, room, length-append c.used (I32 ∷ Ptr ∷ []))) in
+      subst (λ r. PointerCodes w (told_pointer c) (as_address (told w.now.store BaseAddr (as_address (term a w.now w.names)))) r rs regs) q.0
+      (told_pointer_codes w stands.store_is c (range_of a) rs regs gc room (as_address (term a w.now w.names)) h)
+  pointer_does w stands ranges lt (logic.Told at t r BlockLength a) q f known all rs regs ready room = absurd f.0
+  pointer_does w stands ranges lt (logic.Told at t r Offset a) q f known all rs regs ready room = absurd f.0
+  pointer_does w stands ranges lt (logic.Named at t r x) q f known all rs regs ready room = held_pointer_codes w stands x.decl r f q rs regs ready.low ready.near
+  pointer_does w stands ranges lt (logic.At at t r Here a) q f known all rs regs ready room =
+      subst (λ r. PointerCodes w (lcode w a known rs) (as_address (term a w.now w.names)) r rs regs) q.0 (pointer_does w stands ranges lt a q.1 f known all rs regs ready room)
+  pointer_does w stands ranges lt (logic.At at t r Pre a) q f known all rs regs ready room = kept_pointer_codes w stands None a f.0 rs regs ready.low ready.near f.2 r f.3 f.1 q.0
+  pointer_does w stands ranges lt (logic.At at t r (Marked l) a) q f known all rs regs ready room = kept_pointer_codes w stands (Some l) a f.0 rs regs ready.low ready.near f.2 r f.3 f.1 q.0
+  pointer_does w stands ranges lt _ q f known all rs regs ready room = absurd f
 
-  -- a register that is the flag
-  by_register : (a : MonStatements) (f : ℕ) (e : MonExpression) (js : List MonType) (mid : List Value) → length rs ≤ length js → length js < length w.regs → Same (length rs) w.regs mid → runs w a w.regs ≡ Done (Next mid) w.target []
-      → ((later : List Value) → Same (length js) mid later → slice_get later f ≡ Some (Integer (truth (is_some u)))) → ((later : List Value) → Same (length js) mid later → (b : Bool) → u ≡ Some b → HasNumber w e later (truth b))
-      → Still (judged_by a f e js)
-  by_register a f e js mid le room same is flag_is value_is = by u refl
-    where
-      on : MonStatements
-      on = set (length js) e
+  place_does : (w : Setting) (stands : Stands w) (ranges : RangesHold w.seen w.now w.names) → w.target.steps ≤ w.turns → (t : LogicTerm) → TermRanged w.seen t → PlaceFound w.plan w.now.scope (sorts_held w.held) t → (r : Range)
+      → address_range t ≡ Some r → (known : List Reading) → AllRead w.now known → (rs : List MonType) (regs : List Value)
+      → Ready w rs regs
+      → length (place_code w.unit w.bound w.plan t w.held known rs).used ≤ length regs → PointerCodes w (place_code w.unit w.bound w.plan t w.held known rs) (place t w.now w.names) r rs regs
+  place_does w stands ranges lt (logic.Variable at t r0 x) q f r e known all rs regs ready room =
+      subst (λ r. PointerCodes w (start_pointer (pointer_to w.unit w.bound x.decl) rs) (option_map address_of (start_of (find x.decl w.now.scope))) r rs regs) (some_same offset_range r e)
+      (variable_place w stands ranges x f.0 f.1 rs regs ready.low ready.near)
+  place_does w stands ranges lt (logic.Deref at t r0 a) q f r e known all rs regs ready room =
+      subst (λ r. PointerCodes w (lcode w a known rs) (as_address (term a w.now w.names)) r rs regs) (some_same (range_of a) r e) (pointer_does w stands ranges lt a q.1 f known all rs regs ready room)
+  place_does w stands ranges lt (logic.Member at t r0 d a) q f r e known all rs regs ready room =
+      let m = address_parts d (address_range a) r e in
+      member_codes w d (place_code w.unit w.bound w.plan a w.held known rs) (place a w.now w.names) m.0 r rs regs m.2 (place_does w stands ranges lt a q.1 f m.0 m.1 known all rs regs ready room)
+  place_does w stands ranges lt _ q f r e known all rs regs ready room = absurd f
 
-      off : MonStatements
-      off = set (length js) (Constant I32 (pos 0))
+  zone_does : (w : Setting) (stands : Stands w) (ranges : RangesHold w.seen w.now w.names) → w.target.steps ≤ w.turns → (z : Zone) → ZoneRanged w.seen z → ZoneFound w.plan w.now.scope (sorts_held w.held) z → (known : List Reading)
+      → AllRead w.now known → (rs : List MonType) (regs : List Value) → Ready w rs regs
+      → length (zone_code w.unit w.bound w.plan z w.held known rs).pointer.used ≤ length regs → ZoneCodes w (zone_code w.unit w.bound w.plan z w.held known rs) (zone z w.now w.names) rs regs
+  zone_does w stands ranges lt (logic.Object at n m a) q f known all rs regs ready room =
+      object_codes w n (lcode w a known rs) (as_address (term a w.now w.names)) (range_of a) rs regs (pointer_does w stands ranges lt a q f.1 known all rs regs ready room)
+  zone_does w stands ranges lt (logic.Elements at n m a lo hi) q f known all rs regs ready room =
+      let c = lcode w a known rs in
+      let x = tcode w lo known c.used in
+      let y = tcode w hi known x.used in
+      let gc = pointer_grows w.unit w.bound w.plan a w.held known rs in
+      let gx = term_grows w.unit w.bound w.plan lo w.held known c.used in
+      let gy = term_grows w.unit w.bound w.plan hi w.held known x.used in
+      let h = pointer_does w stands ranges lt a q.1 f.1 known all rs regs ready (omega (arith, gx, gy, room)) in
+      let g = term_does w stands ranges lt lo q.2 f.2 known all c.used h.end (ready_after w rs c.used regs h.end gc ready h.same) (omega (arith, gy, room, h.same.long)) in
+      let e = term_does w stands ranges lt hi q.3 f.3 known all x.used g.end (ready_after w c.used x.used h.end g.end gx (ready_after w rs c.used regs h.end gc ready h.same) g.same) (omega (arith, room, h.same.long, g.same.long)) in
+      subst (λ o. ZoneCodes w (elements_code n c (type_of lo) (type_of hi) x y) o rs regs) (sym (elements_is n (term a w.now w.names) (term lo w.now w.names) (term hi w.now w.names)))
+      (elements_codes w n c (type_of lo) (type_of hi) x y (as_address (term a w.now w.names)) (value_of (term lo w.now w.names)) (value_of (term hi w.now w.names)) (range_of a) (range_of lo) (range_of hi) rs regs q.0
+      (λ z e. term_lies w stands ranges lo f.2 q.2 z e) (λ z e. term_lies w stands ranges hi f.3 q.3 z e) (λ z e. wide w stands ranges lo f.2 q.2 z e) (λ z e. wide w stands ranges hi f.3 q.3 z e) gc gx gy h g e)
 
-      last : MonStatements
-      last = one (If (Register f) on off)
+  zones_does : (w : Setting) (stands : Stands w) (ranges : RangesHold w.seen w.now w.names) → w.target.steps ≤ w.turns → (zs : Zones) → ZonesRanged w.seen zs → ZonesFound w.plan w.now.scope (sorts_held w.held) zs → (known : List Reading)
+      → AllRead w.now known → (rs : List MonType) (regs : List Value) → Ready w rs regs
+      → length (zones_code w.unit w.bound w.plan zs w.held known rs).used ≤ length regs → ZonesCodes w (zones_code w.unit w.bound w.plan zs w.held known rs) (zones zs w.now w.names) rs regs
+  zones_does w stands ranges lt NoZone q f known all rs regs ready room = no_zones_codes w rs regs
+  zones_does w stands ranges lt (Another z rest) q f known all rs regs ready room =
+      let c = zone_code w.unit w.bound w.plan z w.held known rs in
+      let ds = zones_code w.unit w.bound w.plan rest w.held known c.pointer.used in
+      let gz = zone_grows w.unit w.bound w.plan z w.held known rs in
+      let gr = zones_grows w.unit w.bound w.plan rest w.held known c.pointer.used in
+      let h = zone_does w stands ranges lt z q.0 f.0 known all rs regs ready (omega (arith, gr, room)) in
+      another_codes w c ds (zone z w.now w.names) (zones rest w.now w.names) rs regs gz gr h
+      (zones_does w stands ranges lt rest q.1 f.1 known all c.pointer.used h.end (ready_after w rs c.pointer.used regs h.end gz ready h.same) (omega (arith, room, h.same.long)))
 
-      end : Bool → List Value
-      end x = slice_set mid (length js) (Integer (truth x))
+  chain_does : (w : Setting) (stands : Stands w) (ranges : RangesHold w.seen w.now w.names) → w.target.steps ≤ w.turns → (t : LogicTerm) (x : Side) (l : Links) → TermRanged w.seen t → IsSide w x t → LinksRanged w.seen l
+      → LinksFound w.plan w.now.scope (sorts_held w.held) t l → (known : List Reading) → AllRead w.now known
+      → (rs : List MonType) (regs : List Value)
+      → Ready w rs regs → length rs ≤ length (used_by x) → SideCodes w x t rs regs → length (chain_code w.unit w.bound w.plan t x l w.held known).used ≤ length regs
+      → Codes w (chain_code w.unit w.bound w.plan t x l w.held known) (truths (said_by (chain (term t w.now w.names) l w.now w.names 0))) rs regs
+  chain_does w stands ranges lt t x NoLink q f h g known all rs regs ready gx cx room = record {
+    end = cx.end;
+    same = cx.same;
+    is = cx.is;
+    holds = λ later s. record { flag_is = refl; value_is = λ z e. ap (λ z. Some (Integer z)) (some_same (pos 1) z e) };
+  }
+  chain_does w stands ranges lt t x (Linked at r u NoLink) q f h g known all rs regs ready gx cx room =
+      let c = lcode w u known (used_by x) in
+      let d = tcode w u known (used_by x) in
+      let y = side_by (is_pointer_term u) c d in
+      let gy = side_grows (is_pointer_term u) c d (used_by x) (pointer_grows w.unit w.bound w.plan u w.held known (used_by x)) (term_grows w.unit w.bound w.plan u w.held known (used_by x)) in
+      let gr = related_grows r t u x y in
+      let next = ready_after w rs (used_by x) regs cx.end gx ready cx.same in
+      let cy = side_made w u c d (used_by x) cx.end g.1 (λ f room. pointer_does w stands ranges lt u h.0 f known all (used_by x) cx.end next room) (λ f room. term_does w stands ranges lt u h.0 f known all (used_by x) cx.end next room)
+      (omega (arith, gr, room, cx.same.long)) in
+      subst (λ o. Codes w (related_code r t u x y) (truths o) rs regs) (sym (last_says w stands ranges r t u at))
+      (related_codes w stands ranges r t u rs regs q h.0 x y f cy.sort g.0 (omega (arith, gx, gy)) room (both_sides w x y t u rs regs gx gy cx cy.codes)).codes
+  chain_does w stands ranges lt t x (Linked at r u (Linked at2 r2 v rest)) q f h g known all rs regs ready gx cx room =
+      let c = lcode w u known (used_by x) in
+      let d = tcode w u known (used_by x) in
+      let y = side_by (is_pointer_term u) c d in
+      let z = related_code r t u x y in
+      let more = known ++ (sure_readings_of_term t ++ sure_readings_of_term u) in
+      let links = Linked at2 r2 v rest in
+      let start = again y z.used in
+      let tail = chain_code w.unit w.bound w.plan u start links w.held more in
+      let gy = side_grows (is_pointer_term u) c d (used_by x) (pointer_grows w.unit w.bound w.plan u w.held known (used_by x)) (term_grows w.unit w.bound w.plan u w.held known (used_by x)) in
+      let gr = related_grows r t u x y in
+      let ga = again_used y z.used in
+      let gd = chain_grows w.unit w.bound w.plan u start links w.held more in
+      let gc = connected_grows And z tail in
+      let next = ready_after w rs (used_by x) regs cx.end gx ready cx.same in
+      let cy = side_made w u c d (used_by x) cx.end g.1 (λ f room. pointer_does w stands ranges lt u h.0 f known all (used_by x) cx.end next room) (λ f room. term_does w stands ranges lt u h.0 f known all (used_by x) cx.end next room)
+      (omega (arith, gr, ga, gd, gc, room, cx.same.long)) in
+      let cz = related_codes w stands ranges r t u rs regs q h.0 x y f cy.sort g.0 (omega (arith, gx, gy)) (omega (arith, ga, gd, gc, room)) (both_sides w x y t u rs regs gx gy cx cy.codes) in
+      let whole = chain_says r (term t w.now w.names) u links w.now w.names in
+      subst (λ o. Codes w (connected_code And z tail) (truths o) rs regs) (sym whole)
+      (connected_runs w And z tail (said_by (related w.now.store r (term t w.now w.names) (term u w.now w.names) 0)) (said_by (chain (term u w.now w.names) links w.now w.names 0))
+      rs regs (omega (arith, gx, gy, gr)) (omega (arith, ga, gd)) room cz.codes
+      (λ b p.
+      let i = related_there w.now.store r (term t w.now w.names) (term u w.now w.names) b p in
+      let a = again_side w stands u y z.used cz.codes.end cz.second i.1.0 i.1.1 cy.sort in
+      chain_does w stands ranges lt u start (Linked at2 r2 v rest) h.0 a.sort h.1 g.2 more
+      (read-append w.now known (sure_readings_of_term t ++ sure_readings_of_term u) all
+      (relation_read w.plan (sorts_held w.held) w.seen w.now w.names (stands_sorted w stands) stands.sound.together r t u q h.0 (side_found w x t f) g.1 b p)) z.used cz.codes.end
+      (ready_after w rs z.used regs cz.codes.end (omega (arith, gx, gy, gr)) ready cz.codes.same) (omega (arith, ga)) a.codes (omega (arith, gc, room, cz.codes.same.long))))
 
-      end_same : (x : Bool) → Same (length js) mid (end x)
-      end_same x = same_set (length js) (length js) mid (Integer (truth x)) (omega arith)
+  pub pred_does : (w : Setting) (stands : Stands w) (ranges : RangesHold w.seen w.now w.names) → w.target.steps ≤ w.turns → (p : Predicate) → PredicateRanged w.seen p → PredicateFound w.plan w.now.scope (sorts_held w.held) p → (known : List Reading)
+      → AllRead w.now known
+      → (rs : List MonType) (regs : List Value) → Ready w rs regs → length (pcode w p known rs).used ≤ length regs → Told w (pcode w p known rs) (pred p w.now w.names w.target.steps) rs regs
+  pred_does w stands ranges lt (logic.Truth at b) q f known all rs regs ready room =
+      told_of w (truth_code b rs) (Some b) rs regs (sure_codes w (Constant I32 (truth b)) (Some (truth b)) (truth b) rs regs refl (λ later s. refl))
+  pred_does w stands ranges lt (logic.NonZero at t) q f known all rs regs ready room =
+      let c = code_with_value (Binary mon.Ne (type_of t) (tcode w t known rs).value (Constant (type_of t) (pos 0))) (tcode w t known rs) in
+      subst (λ (A : Answer). Told w c A rs regs) (sym (related_quiet w.now.store Ne (term t w.now w.names) (Some (Mathematical (pos 0))) w.target.steps))
+      (told_of w c (said_by (related w.now.store Ne (term t w.now w.names) (Some (Mathematical (pos 0))) 0)) rs regs
+      (nonzero_codes w stands ranges t q f (tcode w t known rs) rs regs (term_does w stands ranges lt t q f known all rs regs ready room)))
+  pred_does w stands ranges lt (logic.Chain at t links) q f known all rs regs ready room =
+      let c = lcode w t known rs in
+      let d = tcode w t known rs in
+      let x = side_by (is_pointer_term t) c d in
+      let gx = side_grows (is_pointer_term t) c d rs (pointer_grows w.unit w.bound w.plan t w.held known rs) (term_grows w.unit w.bound w.plan t w.held known rs) in
+      let gl = chain_grows w.unit w.bound w.plan t x links w.held known in
+      let cx = side_made w t c d rs regs f.0 (λ f room. pointer_does w stands ranges lt t q.0 f known all rs regs ready room) (λ f room. term_does w stands ranges lt t q.0 f known all rs regs ready room) (omega (arith, gl, room)) in
+      subst (λ (A : Answer). Told w (chain_code w.unit w.bound w.plan t x links w.held known) A rs regs) (sym (chain_quiet (term t w.now w.names) links w.now w.names w.target.steps))
+      (told_of w (chain_code w.unit w.bound w.plan t x links w.held known) (said_by (chain (term t w.now w.names) links w.now w.names 0)) rs regs
+      (chain_does w stands ranges lt t x links q.0 cx.sort q.1 f.1 known all rs regs ready gx cx.codes room))
+  pred_does w stands ranges lt (logic.Not at p) q f known all rs regs ready room =
+      denied_told w (pcode w p known rs) (pred p w.now w.names w.target.steps) rs regs (pred_does w stands ranges lt p q f known all rs regs ready room)
+  pred_does w stands ranges lt (logic.Connected at c a b) q f known all rs regs ready room =
+      let n = w.target.steps in
+      let x = pcode w a known rs in
+      let ks = known_at_right c known a in
+      let y = pcode w b ks x.used in
+      let gx = pred_grows w.unit w.bound w.plan a w.held known rs in
+      let gy = pred_grows w.unit w.bound w.plan b w.held ks x.used in
+      let gc = connected_grows c x y in
+      let falls = steps_pred a w.now w.names n in
+      let cx = pred_does w stands ranges lt a q.0 f.0 known all rs regs ready (omega (arith, gy, gc, room)) in
+      let right = λ (end : List Value) (k : ℕ) (same : Same (length rs) regs end) (le : k ≤ n) (there : AllRead w.now ks).
+      pred_does (with_steps k w) (with_stands w k stands) ranges (omega (arith, le, lt)) b q.1 f.1 ks there x.used end (ready_with w k x.used end (ready_after w rs x.used regs end gx ready same)) (omega (arith, gc, room, same.long)) in
+      connected_told w c x y (pred a w.now w.names n) (pred b w.now w.names) rs regs gx gy room cx (
+        λ end k v same e. right end k same (says_left (pred a w.now w.names n) n k v falls e) (known_right w.plan (sorts_held w.held) w.seen w.now w.names (stands_sorted w stands) stands.sound.together c known a q.0 f.0 all n v k e),
+        λ s end k same e. right end k same (nothing_left (pred a w.now w.names n) n k falls e) (known_strict w.now c s known a all),
+      )
+  pred_does w stands ranges lt (logic.Branch at c a b) q f known all rs regs ready room =
+      let n = w.target.steps in
+      let more = known ++ sure_readings c in
+      let z = pcode w c known rs in
+      let x = pcode w a more z.used in
+      let y = pcode w b more x.used in
+      let gz = pred_grows w.unit w.bound w.plan c w.held known rs in
+      let gx = pred_grows w.unit w.bound w.plan a w.held more z.used in
+      let gy = pred_grows w.unit w.bound w.plan b w.held more x.used in
+      let two = length-append y.used (I32 ∷ I32 ∷ []) in
+      let falls = steps_pred c w.now w.names n in
+      let cz = pred_does w stands ranges lt c q.0 f.0 known all rs regs ready (omega (arith, gx, gy, two, room)) in
+      let there = λ (v : Bool) (k : ℕ) (e : pred c w.now w.names n ≡ Says v k).
+      read-append w.now known (sure_readings c) all (pred_read w.plan (sorts_held w.held) w.seen w.now w.names (stands_sorted w stands) stands.sound.together c q.0 f.0 n v k e) in
+      branch_told w z x y (pred c w.now w.names n) (pred a w.now w.names) (pred b w.now w.names) rs z.used x.used regs gz (omega (arith, gz, gx)) (omega (arith, gz, gx, gy)) gy (omega (arith, two, room)) cz
+      (λ end k same e held.
+      let le = says_left (pred c w.now w.names n) n k true falls e in
+      pred_does (with_steps k w) (with_stands w k stands) ranges (omega (arith, le, lt)) a q.1 f.1 more (there true k e) z.used end (ready_with w k z.used end (ready_after w rs z.used regs end gz ready same))
+      (omega (arith, gy, two, room, same.long)))
+      (λ end k same e.
+      let le = says_left (pred c w.now w.names n) n k false falls e in
+      pred_does (with_steps k w) (with_stands w k stands) ranges (omega (arith, le, lt)) b q.2 f.2 more (there false k e) x.used end (ready_with w k x.used end (ready_after w rs x.used regs end (omega (arith, gz, gx)) ready same))
+      (omega (arith, two, room, same.long)))
+  pred_does w stands ranges lt (logic.Quantified at q gs p) qq f known all rs regs ready room =
+      guards_does w ranges.state q gs p (λ hs m e low base n known all js regs st ft r f le near room lt. pred_does (moved w hs m e low base n) st (record { state = ranges.state; names = ft }) lt p r f known all js regs
+      (record { low = le; near = near }) room)
+      w.held w.seen w.names w.low w.regs w.target.steps known all rs regs stands ranges.names qq f ready.low ready.near room lt
+  pred_does w stands ranges lt (logic.Asks at g z) q f known all rs regs ready room =
+      let c = zone_code w.unit w.bound w.plan z w.held known rs in
+      let gz = zone_grows w.unit w.bound w.plan z w.held known rs in
+      let h = zone_does w stands ranges lt z q f known all rs regs ready (omega (arith, room, length-append c.pointer.used (I32 ∷ []))) in
+      told_of w (zone_asked g (alignment_of z) c) (option_map (asks_of g w.now.store (alignment_of z)) (zone z w.now w.names)) rs regs
+      (subst (λ m. Codes w (zone_asked g (alignment_of z) c) (truths (option_map (asks_of g w.now.store m) (zone z w.now w.names))) rs regs) (alignment_is w.plan w.now.scope (sorts_held w.held) z f)
+      (asked_codes w stands.store_is g (alignment_of z) c rs regs gz room (zone z w.now w.names) h))
+  pred_does w stands ranges lt (logic.Separated at zs) q f known all rs regs ready room =
+      let c = zones_code w.unit w.bound w.plan zs w.held known rs in
+      let gz = zones_grows w.unit w.bound w.plan zs w.held known rs in
+      let h = zones_does w stands ranges lt zs q f known all rs regs ready (omega (arith, room, length-append c.used (I32 ∷ I32 ∷ []))) in
+      told_of w (separated_code c) (option_map all_apart (zones zs w.now w.names)) rs regs (separated_codes w c rs regs gz room (zones zs w.now w.names) h)
 
-      flag_here : (v : Option Bool) → u ≡ v → slice_get mid f ≡ Some (Integer (truth (is_some v)))
-      flag_here v q = flag_is mid (same_all (length js) mid) ∙ ap (λ v. Some (Integer (truth (is_some v)))) q
-
-      ends : (x : Bool) → is_true u ≡ x → runs w last mid ≡ Done (Next (end x)) w.target [] → Still (judged_by a f e js)
-      ends x q leads = record {
-        after = end x;
-        same = same_trans (length rs) (length js) w.regs mid (end x) le same (end_same x);
-        is = after_runs w a last w.regs mid is ∙ leads;
-        holds = record {
-          flag_is = flag_is (end x) (end_same x);
-          truth_is = get-set_same mid (length js) (Integer (truth x)) (omega (arith, room, same.long)) ∙ ap (λ b. Some (Integer (truth b))) (sym q);
-        };
-      }
-
-      by : (v : Option Bool) → u ≡ v → Still (judged_by a f e js)
-      by None q = ends false (ap is_true q) (if_false w (Register f) on off mid (flag_here None q) ∙ set_runs w (length js) (Constant I32 (pos 0)) mid (pos 0) refl)
-      by (Some b) q = ends b (ap is_true q) (if_true w (Register f) on off mid (flag_here (Some b) q) ∙ set_runs w (length js) e mid (truth b) (value_is mid (same_all (length js) mid) b q))
-
-  module _ (c : Code) (le : length rs ≤ length c.used) (h : Codes w c (truths u) rs w.regs) where
-    value_holds : (later : List Value) → Same (length c.used) h.end later → (b : Bool) → u ≡ Some b → HasNumber w c.value later (truth b)
-    value_holds later s b q = (h.holds later s).value_is (truth b) (ap truths q)
-
-    long_one : length (c.used ++ I32 ∷ []) ≡ suc (length c.used)
-    long_one = omega (arith, length-append c.used (I32 ∷ []))
-
-    -- the flag in a register of its own
-    anew : (e : MonExpression) → HasNumber w e h.end (truth (is_some u)) → length (judged_anew e c).used ≤ length w.regs → Still (judged_anew e c)
-    anew e has room =
-        by_register (before c.stmts (set (length c.used) e)) (length c.used) c.value (c.used ++ I32 ∷ []) mid (omega (arith, le, long_one)) (omega (arith, room, longer_two))
-        (same_trans (length rs) (length c.used) w.regs h.end mid le h.same mid_same)
-        (after_runs w c.stmts (set (length c.used) e) w.regs h.end h.is ∙ set_runs w (length c.used) e h.end (truth (is_some u)) has)
-        (λ later s. s.below (length c.used) (omega (arith, long_one)) ∙ get-set_same h.end (length c.used) (Integer (truth (is_some u))) (omega (arith, room, long_one, longer_two, h.same.long)))
-        (λ later s. value_holds later (same_trans (length c.used) (length c.used) h.end mid later (omega arith) mid_same (same_less (length c.used) (length (c.used ++ I32 ∷ [])) mid later (omega (arith, long_one)) s)))
-      where
-        mid : List Value
-        mid = slice_set h.end (length c.used) (Integer (truth (is_some u)))
-
-        mid_same : Same (length c.used) h.end mid
-        mid_same = same_set (length c.used) (length c.used) h.end (Integer (truth (is_some u))) (omega arith)
-
-        longer_two : length ((c.used ++ I32 ∷ []) ++ I32 ∷ []) ≡ suc (length (c.used ++ I32 ∷ []))
-        longer_two = omega (arith, length-append (c.used ++ I32 ∷ []) (I32 ∷ []))
-
-    flag_number : (e : MonExpression) (later : List Value) → HasNumber w e later (truth (is_some (truths u))) → HasNumber w e later (truth (is_some u))
-    flag_number e later has = has ∙ ap (λ b. Some (Integer (truth b))) (truths_there u)
-
-    by_flag : (f : Option MonExpression) → ((later : List Value) → Same (length c.used) h.end later → FlagIs w f (is_some (truths u)) later) → length (judged_with f c).used ≤ length w.regs → Still (judged_with f c)
-    by_flag None flag room = anew (Constant I32 (pos 1)) (ap (λ b. Some (Integer (truth b))) (sym (sym (truths_there u) ∙ flag h.end (same_all (length c.used) h.end)))) room
-    by_flag (Some (Register f)) flag room =
-        by_register c.stmts f c.value c.used h.end le (omega (arith, room, long_one)) h.same h.is (λ later s. flag_number (Register f) later (flag later s)) value_holds
-    by_flag (Some (Global g)) flag room = anew (Global g) (flag_number (Global g) h.end (flag h.end (same_all (length c.used) h.end))) room
-    by_flag (Some (Constant t z)) flag room = anew (Constant t z) (flag_number (Constant t z) h.end (flag h.end (same_all (length c.used) h.end))) room
-    by_flag (Some (Binary op t a b)) flag room = anew (Binary op t a b) (flag_number (Binary op t a b) h.end (flag h.end (same_all (length c.used) h.end))) room
-    by_flag (Some (Minus t a)) flag room = anew (Minus t a) (flag_number (Minus t a) h.end (flag h.end (same_all (length c.used) h.end))) room
-    by_flag (Some (Flip t a)) flag room = anew (Flip t a) (flag_number (Flip t a) h.end (flag h.end (same_all (length c.used) h.end))) room
-    by_flag (Some (Cast t a)) flag room = anew (Cast t a) (flag_number (Cast t a) h.end (flag h.end (same_all (length c.used) h.end))) room
-    by_flag (Some (Load t a)) flag room = anew (Load t a) (flag_number (Load t a) h.end (flag h.end (same_all (length c.used) h.end))) room
-
-pub judged_with_grows : (f : Option MonExpression) (c : Code) → length c.used ≤ length (judged_with f c).used
-judged_with_grows None c = omega (arith, longer c.used (I32 ∷ []), longer (c.used ++ I32 ∷ []) (I32 ∷ []))
-judged_with_grows (Some (Register f)) c = longer c.used (I32 ∷ [])
-judged_with_grows (Some (Global g)) c = omega (arith, longer c.used (I32 ∷ []), longer (c.used ++ I32 ∷ []) (I32 ∷ []))
-judged_with_grows (Some (Constant t z)) c = omega (arith, longer c.used (I32 ∷ []), longer (c.used ++ I32 ∷ []) (I32 ∷ []))
-judged_with_grows (Some (Binary op t a b)) c = omega (arith, longer c.used (I32 ∷ []), longer (c.used ++ I32 ∷ []) (I32 ∷ []))
-judged_with_grows (Some (Minus t a)) c = omega (arith, longer c.used (I32 ∷ []), longer (c.used ++ I32 ∷ []) (I32 ∷ []))
-judged_with_grows (Some (Flip t a)) c = omega (arith, longer c.used (I32 ∷ []), longer (c.used ++ I32 ∷ []) (I32 ∷ []))
-judged_with_grows (Some (Cast t a)) c = omega (arith, longer c.used (I32 ∷ []), longer (c.used ++ I32 ∷ []) (I32 ∷ []))
-judged_with_grows (Some (Load t a)) c = omega (arith, longer c.used (I32 ∷ []), longer (c.used ++ I32 ∷ []) (I32 ∷ []))
-
--- an answer that takes no step
-still_judges : (w : Setting) (rs : List MonType) (j : Judgement) (u : Option Bool) → Still w rs u j → Judges w rs j (said u w.target.steps)
-still_judges w rs j None h = h
-still_judges w rs j (Some b) h = h
-
-pub code_judges : CodeJudges
-code_judges w p rs stands ranges q f low room =
-    let c = pred_code w.unit w.bound w.plan p w.held [] rs in
-    let h = pred_does w stands ranges p q f [] tt rs w.regs (record { low = low; near = same_all w.low w.regs }) (omega (arith, room, judged_with_grows c.flag c)) in
-    let u = says p w.now w.names in
-    subst (Judges w rs (judged_with c.flag c)) (sym (pred_quiet w.plan (sorts_held w.held) p w.now w.names f w.target.steps))
-    (still_judges w rs (judged_with c.flag c) u (by_flag w rs u c (pred_grows w.unit w.bound w.plan p w.held [] rs) h c.flag (λ later s. (h.holds later s).flag_is) room))
+  guards_does : (w : Setting) → StateFits w.now → (q : Quantifier) (gs : Guards) (p : Predicate) → Within w (pred_code w.unit w.bound w.plan p) (pred p w.now) (λ m. PredicateRanged m p) (λ ns. PredicateFound w.plan w.now.scope ns p)
+      → Within w (guards_code w.unit w.bound w.plan q gs (pred_code w.unit w.bound w.plan p)) (guarded q gs (pred p w.now) w.now) (λ m. GuardsRanged m gs (λ m. PredicateRanged m p))
+      (λ ns. GuardsFound w.plan w.now.scope ns gs (λ ns. PredicateFound w.plan w.now.scope ns p))
+  guards_does w fits q NoGuard p inside hs m e low base n known all js regs st ft r f le near room lt = inside hs m e low base n known all js regs st ft r f le near room lt
+  guards_does w fits q (Guarded a y ys below b rest) p inside hs m e low base n known all js regs st ft r f le near room lt =
+      let v = moved w hs m e low base n in
+      let ranges : RangesHold m w.now e = record { state = fits; names = ft } in
+      let ready : Ready v js regs = record { low = le; near = near } in
+      let x = tcode v a known js in
+      let z = tcode v b known x.used in
+      let k = type_of_width (wider (width_of a) (width_of b)) in
+      let more = known ++ (sure_readings_of_term a ++ sure_readings_of_term b) in
+      let inner2 = λ (names : List Held) (js2 : List MonType). guards_code w.unit w.bound w.plan q rest (pred_code w.unit w.bound w.plan p) names more js2 in
+      let grows2 = λ (names : List Held) (js2 : List MonType). guards_grows w.unit w.bound w.plan q rest (pred_code w.unit w.bound w.plan p) names more js2 (λ names known js. pred_grows w.unit w.bound w.plan p names known js) in
+      let c = bounded_code q below k (in_type (type_of a) k x.value) (in_type (type_of b) k z.value) (range_of a).lo (lowered below (range_of b).hi) (y ∷ ys) inner2 hs z.used in
+      let gx = term_grows w.unit w.bound w.plan a hs known js in
+      let gz = term_grows w.unit w.bound w.plan b hs known x.used in
+      let gc = bounded_grows q below k (in_type (type_of a) k x.value) (in_type (type_of b) k z.value) (range_of a).lo (lowered below (range_of b).hi) (y ∷ ys) inner2 hs z.used grows2 in
+      let two = length-append c.used (I32 ∷ I32 ∷ []) in
+      let cx = term_does v st ranges lt a r.0 f.0 known all js regs ready (omega (arith, gz, gc, two, room)) in
+      let cz = term_does v st ranges lt b r.1 f.1 known all x.used cx.end (ready_after v js x.used regs cx.end gx ready cx.same) (omega (arith, gc, two, room, cx.same.long)) in
+      bounds_told w fits q a y ys below b inner2 (guarded q rest (pred p w.now) w.now) (λ m2. GuardsRanged m2 rest (λ m. PredicateRanged m p)) (λ ns. GuardsFound w.plan w.now.scope ns rest (λ ns. PredicateFound w.plan w.now.scope ns p)) known all
+      (λ there names m2 e2 low2 base2 n2 js2 regs2 st2 ft2 r2 f2 le2 near2 room2 lt2. guards_does w fits q rest p inside names m2 e2 low2 base2 n2 more there js2 regs2 st2 ft2 r2 f2 le2 near2 room2 lt2)
+      grows2 (steps_guarded q rest (pred p w.now) w.now (steps_pred p w.now)) hs m e low base n js regs st ft r.0 r.1 r.2 r.3 f.0 f.1 f.2 le near x z gx gz cx cz room lt

@@ -1,19 +1,24 @@
 -- Each term at a label of a predicate that is typed and keeps its ranges is so under its label.
-use Rattle.std.proofs.Common.{◌≡◌, ◌⊎◌, inl, inr, ℕ, List, [], ◌∷◌, ◌++◌, Option, Some, None, option_map, refl, sym, ap, ◌∙◌, subst}
+use Rattle.std.proofs.Common.{◌≡◌, ◌⊎◌, inl, inr, ℕ, ℤ, true, cond, nat_eq, append_assoc, List, [], ◌∷◌, ◌++◌, Option, Some, None, option_map, refl, sym, ap, ◌∙◌, subst}
+use Rattle.std.proofs.lemmas.List.{append-nil}
+use Rattle.c_syntax.specs.declared.annotation.Range.{Range}
 use Rattle.c_syntax.specs.declared.expression.Use.{Use}
+use Rattle.c_syntax.specs.declared.place.Place.{Place}
 use Rattle.c_syntax.specs.declared.logic.Label.{Label}
 use Rattle.c_syntax.specs.declared.logic.Label.TheVariants.{Here, Pre, Marked}
 use Rattle.c_syntax.specs.Ctypes.{PlainType}
 use Rattle.c_syntax.specs.Formulas.{CastType}
 use Rattle.c_syntax.specs.Logic.{LogicTerm, Number, Letter, Variable, Unary, Binary, Cast, Choice, Named, At, Null, Deref, Member, Address, Moved, Difference, Told}
-use Rattle.c_syntax.specs.Logic.{Links, NoLink, Linked, Zone, Object, Elements, Zones, NoZone, Another, Predicate, Truth, NonZero, Chain, Not, Connected, Branch, Quantified, Asks, Separated}
-use Rattle.c_model.specs.AnnotationSights.{AnnotationSight, ClauseSight, beginning, marked, sight_at, under_label}
+use Rattle.c_syntax.specs.Logic.{Links, NoLink, Linked, Zone, Object, Elements, Zones, NoZone, Another, Predicate, Truth, NonZero, Chain, Not, Connected, Branch, Quantified, Asks, Separated, Binder, Guards, NoGuard, Guarded, range_of}
+use Rattle.c_model.specs.AnnotationSights.{AnnotationSight, ClauseSight, beginning, marked, sight_at, under_label, with_binders}
 use Rattle.c_model.specs.ExpressionTyping.{Sight}
 use Rattle.c_model.specs.PredicateTyping.{sort_of, sort_of_term, type_of_term}
-use Rattle.c_model.specs.TermRanges.{Seen, TermRanged, LinksRanged, ZoneRanged, ZonesRanged, PredicateRanged}
+use Rattle.c_model.specs.TermRanges.{Seen, TermRanged, LinksRanged, ZoneRanged, ZonesRanged, PredicateRanged, GuardsRanged, lowered, raised, range_seen, seen_binders, tried_range}
 use Rattle.c_model.specs.TypedPredicates.{IsIntegerTerm, IsPointerTerm, IsPlace, IsResult, IsZeroTerm, AreRelated, IsCast, OfInteger, OfPointer, IsChoice, BetweenIntegers, BetweenPointers}
-use Rattle.c_model.specs.TypedPredicates.{TermTyped, LinksTyped, ZoneTyped, ZonesTyped, PredicateTyped}
-use Rattle.annot_simulation.specs.Plan.{Entry, IsIn, in_term, in_links, in_zone, in_zones, in_predicate}
+use Rattle.c_model.specs.TypedPredicates.{TermTyped, LinksTyped, ZoneTyped, ZonesTyped, PredicateTyped, GuardsTyped, AreBinders, IsBound}
+use Rattle.annot_simulation.proofs.BinderNames.{bound_split, nat_same}
+pub use Rattle.annot_simulation.specs.Beside.{NoNames}
+use Rattle.annot_simulation.specs.Plan.{Entry, IsIn, in_guards, in_term, in_links, in_zone, in_zones, in_predicate}
 
 -- what is in sight at a label, or where the call begins
 abbrev pub sight_of : AnnotationSight → Option ℕ → Option Sight
@@ -53,6 +58,123 @@ same_side : (a b : LogicTerm) → type_of_term a ≡ type_of_term b → IsIntege
 same_side a b e (inl i) = inl (sym (ap sort_of e) ∙ i)
 same_side a b e (inr (u, i)) = inr (u, sym (ap sort_of e) ∙ i)
 
+-- ---- ranges where no name stands
+
+-- no binder is in sight
+abbrev pub NoBinders : AnnotationSight → Type 0
+NoBinders view = (x : ℕ) → IsBound view.binders x → ⊥
+
+-- names of both keep the same ranges for what is in sight
+pub record Alike (view : AnnotationSight) (seen to : Seen) : Type 0 where
+  pub nameless : NoNames view.clause
+  pub bound : (x : ℕ) → IsBound view.binders x → range_seen x seen ≡ range_seen x to
+
+under_alike : (view : AnnotationSight) (v : Sight) (seen to : Seen) → Alike (under_label view v) seen to
+under_alike view v seen to = record { nameless = λ t x i. i; bound = λ x i. absurd i }
+
+-- so it is under a label
+alike_at : (view u : AnnotationSight) (l : Label) (seen to : Seen) → sight_at view l ≡ Some u → Alike view seen to → Alike u seen to
+alike_at view u Here seen to e h = let same : view ≡ u = cc in subst (λ (u : AnnotationSight). Alike u seen to) same h
+alike_at view u Pre seen to e h = by (beginning view.here view.clause) e
+  where
+    by : (o : Option Sight) → option_map (under_label view) o ≡ Some u → Alike u seen to
+    by None e = absurd cc
+    by (Some v) e = let same : under_label view v ≡ u = cc in subst (λ (u : AnnotationSight). Alike u seen to) same (under_alike view v seen to)
+alike_at view u (Marked l) seen to e h = by (marked l view.labels) e
+  where
+    by : (o : Option Sight) → option_map (under_label view) o ≡ Some u → Alike u seen to
+    by None e = absurd cc
+    by (Some v) e = let same : under_label view v ≡ u = cc in subst (λ (u : AnnotationSight). Alike u seen to) same (under_alike view v seen to)
+
+-- and within binders
+bound_alike : (ys : List Binder) (bs front : List (Place × ℕ)) (l h : ℤ) (seen to : Seen) → AreBinders ys bs → ((x : ℕ) → IsBound front x → range_seen x seen ≡ range_seen x to)
+    → (x : ℕ) → IsBound (front ++ bs) x → range_seen x (seen_binders l ys h seen) ≡ range_seen x (seen_binders l ys h to)
+bound_alike [] [] front l h seen to are known x i = known x (subst (λ k. IsBound k x) (append-nil front) i)
+bound_alike [] (b ∷ bs) front l h seen to are known x i = absurd are
+bound_alike (y ∷ ys) [] front l h seen to are known x i = absurd are
+bound_alike (y ∷ ys) (b ∷ bs) front l h seen to are known x i =
+    bound_alike ys bs (front ++ b ∷ []) range.lo h ((y.place.offset, range) ∷ seen) ((y.place.offset, range) ∷ to) are.3 (λ n j. by n (bound_split front (b ∷ []) n j)) x (subst (λ k. IsBound k x) (sym (append_assoc front (b ∷ []) bs)) i)
+  where
+    range : Range
+    range = tried_range y.kind (raised y.above l) h
+
+    by : (n : ℕ) → IsBound front n ⊎ IsBound (b ∷ []) n → cond (nat_eq y.place.offset n) (Some range) (range_seen n seen) ≡ cond (nat_eq y.place.offset n) (Some range) (range_seen n to)
+    by n (inl j) = ap (λ o. cond (nat_eq y.place.offset n) (Some range) o) (known n j)
+    by n (inr (inl e)) =
+        let same : y.place.offset ≡ n = ap (λ (p : Place). p.offset) are.0 ∙ sym e in
+        let yes : nat_eq y.place.offset n ≡ true = subst (λ m. nat_eq y.place.offset m ≡ true) same (nat_same y.place.offset) in
+        ap (λ c. cond c (Some range) (range_seen n seen)) yes ∙ sym (ap (λ c. cond c (Some range) (range_seen n to)) yes)
+    by n (inr (inr j)) = absurd j
+
+alike_within : (view : AnnotationSight) (ys : List Binder) (bs : List (Place × ℕ)) (l h : ℤ) (seen to : Seen) → AreBinders ys bs → Alike view seen to → Alike (with_binders view bs) (seen_binders l ys h seen) (seen_binders l ys h to)
+alike_within view ys bs l h seen to are same = record { nameless = same.nameless; bound = λ x i. bound_alike ys bs view.binders l h seen to are same.bound x i }
+
+-- so ranges are the same
+mutual
+  pub term_alike : (view : AnnotationSight) (seen to : Seen) → Alike view seen to → (t : LogicTerm) → TermTyped view t → TermRanged seen t → TermRanged to t
+  term_alike view seen to h (Number at t r n) q g = g
+  term_alike view seen to h (Letter at t r n) q g = g
+  term_alike view seen to h (Variable at t r x) q g = g
+  term_alike view seen to h (Unary at t r op a) q g = (g.0, term_alike view seen to h a q.3 g.1)
+  term_alike view seen to h (Binary at t r op a b) q g = (g.0, term_alike view seen to h a q.3 g.1, term_alike view seen to h b q.4 g.2)
+  term_alike view seen to h (Cast at t r kind a) q g = (g.0, term_alike view seen to h a q.1 g.1)
+  term_alike view seen to h (Choice at t r c a b) q g = (g.0, predicate_alike view seen to h c q.2 g.1, term_alike view seen to h a q.3 g.2, term_alike view seen to h b q.4 g.3)
+  term_alike view seen to h (Named at t r x) (inl i) g = absurd (h.nameless t x i)
+  term_alike view seen to h (Named at t r x) (inr b) g = sym (h.bound x.decl b.1) ∙ g
+  term_alike view seen to h (At at t r l a) q g = (g.0, term_alike q.0 seen to (alike_at view q.0 l seen to q.1 h) a q.3 g.1)
+  term_alike view seen to h (Null at t r) q g = g
+  term_alike view seen to h (Deref at t r a) q g = (g.0, term_alike view seen to h a q.3 g.1)
+  term_alike view seen to h (Member at t r d a) q g = (g.0, term_alike view seen to h a q.5 g.1)
+  term_alike view seen to h (Address at t r a) q g = (g.0, term_alike view seen to h a q.4 g.1)
+  term_alike view seen to h (Moved at t r op n a b) q g = (g.0, term_alike view seen to h a q.4 g.1, term_alike view seen to h b q.5 g.2)
+  term_alike view seen to h (Difference at t r n a b) q g = (g.0, term_alike view seen to h a q.3 g.1, term_alike view seen to h b q.4 g.2)
+  term_alike view seen to h (Told at t r f a) q g = (g.0, term_alike view seen to h a q.2 g.1)
+
+  links_alike : (view : AnnotationSight) (seen to : Seen) → Alike view seen to → (a : LogicTerm) (links : Links) → LinksTyped view a links → LinksRanged seen links → LinksRanged to links
+  links_alike view seen to h a NoLink q g = g
+  links_alike view seen to h a (Linked at r t rest) q g = (term_alike view seen to h t q.1 g.0, links_alike view seen to h t rest q.2 g.1)
+
+  zone_alike : (view : AnnotationSight) (seen to : Seen) → Alike view seen to → (z : Zone) → ZoneTyped view z → ZoneRanged seen z → ZoneRanged to z
+  zone_alike view seen to h (Object at n m a) q g = term_alike view seen to h a q.1 g
+  zone_alike view seen to h (Elements at n m a lo hi) q g = (g.0, term_alike view seen to h a q.3 g.1, term_alike view seen to h lo q.4 g.2, term_alike view seen to h hi q.5 g.3)
+
+  zones_alike : (view : AnnotationSight) (seen to : Seen) → Alike view seen to → (zs : Zones) → ZonesTyped view zs → ZonesRanged seen zs → ZonesRanged to zs
+  zones_alike view seen to h NoZone q g = g
+  zones_alike view seen to h (Another z rest) q g = (zone_alike view seen to h z q.0 g.0, zones_alike view seen to h rest q.1 g.1)
+
+  pub predicate_alike : (view : AnnotationSight) (seen to : Seen) → Alike view seen to → (p : Predicate) → PredicateTyped view p → PredicateRanged seen p → PredicateRanged to p
+  predicate_alike view seen to h (Truth at b) q g = g
+  predicate_alike view seen to h (NonZero at t) q g = term_alike view seen to h t q.1 g
+  predicate_alike view seen to h (Chain at t links) q g = (term_alike view seen to h t q.0 g.0, links_alike view seen to h t links q.1 g.1)
+  predicate_alike view seen to h (Not at p) q g = predicate_alike view seen to h p q g
+  predicate_alike view seen to h (Connected at c p r) q g = (predicate_alike view seen to h p q.0 g.0, predicate_alike view seen to h r q.1 g.1)
+  predicate_alike view seen to h (Branch at c p r) q g = (predicate_alike view seen to h c q.0 g.0, predicate_alike view seen to h p q.1 g.1, predicate_alike view seen to h r q.2 g.2)
+  predicate_alike view seen to h (Quantified at k gs p) q g = guards_alike view seen to h gs p q g (λ view seen to h q g. predicate_alike view seen to h p q g)
+  predicate_alike view seen to h (Asks at f z) q g = zone_alike view seen to h z q g
+  predicate_alike view seen to h (Separated at zs) q g = zones_alike view seen to h zs q g
+
+  guards_alike : (view : AnnotationSight) (seen to : Seen) → Alike view seen to → (gs : Guards) (p : Predicate) → GuardsTyped view gs (λ u. PredicateTyped u p) → GuardsRanged seen gs (λ m. PredicateRanged m p)
+      → ((view : AnnotationSight) (seen to : Seen) → Alike view seen to → PredicateTyped view p → PredicateRanged seen p → PredicateRanged to p) → GuardsRanged to gs (λ m. PredicateRanged m p)
+  guards_alike view seen to h NoGuard p q g inside = inside view seen to h q g
+  guards_alike view seen to h (Guarded a y ys below b rest) p q g inside = (
+    term_alike view seen to h a q.2 g.0,
+    term_alike view seen to h b q.3 g.1,
+    g.2,
+    guards_alike (with_binders view q.4) (seen_binders (range_of a).lo (y ∷ ys) (lowered below (range_of b).hi) seen) (seen_binders (range_of a).lo (y ∷ ys) (lowered below (range_of b).hi) to)
+        (alike_within view (y ∷ ys) q.4 (range_of a).lo (lowered below (range_of b).hi) seen to q.5 h) rest p q.6 g.3 inside,
+  )
+
+none_alike : (view : AnnotationSight) (seen : Seen) → NoNames view.clause → NoBinders view → Alike view seen []
+none_alike view seen names binders = record { nameless = names; bound = λ x i. absurd (binders x i) }
+
+pub term_alone : (seen : Seen) (view : AnnotationSight) → NoNames view.clause → NoBinders view → (t : LogicTerm) → TermTyped view t → TermRanged seen t → TermRanged [] t
+term_alone seen view names binders t q g = term_alike view seen [] (none_alike view seen names binders) t q g
+
+pub predicate_alone : (seen : Seen) (view : AnnotationSight) → NoNames view.clause → NoBinders view → (p : Predicate) → PredicateTyped view p → PredicateRanged seen p → PredicateRanged [] p
+predicate_alone seen view names binders p q g = predicate_alike view seen [] (none_alike view seen names binders) p q g
+
+-- ---- terms at labels
+
 module _ (s : AnnotationSight) (seen : Seen) where
   abbrev pub AllStand : List Entry → Type 0
   AllStand xs = (x : Entry) → IsIn x xs → EntryStands s seen x
@@ -65,132 +187,107 @@ module _ (s : AnnotationSight) (seen : Seen) where
   both (y ∷ xs) ys f g x (inl e) = f x (inl e)
   both (y ∷ xs) ys f g x (inr i) = both xs ys (λ x i. f x (inr i)) g x i
 
-  -- one term at a label
-  entry : (l : Option ℕ) (a : LogicTerm) (u : AnnotationSight) → option_map (under_label s) (sight_of s l) ≡ Some u → TermTyped u a → IsIntegerTerm a ⊎ IsPointerTerm a → TermRanged seen a → AllStand ((l, a) ∷ [])
-  entry l a u e typed side ranged x (inl same) = subst (EntryStands s seen) same (by (sight_of s l) refl e)
+  -- a place with the same labels in sight
+  record Beside (view : AnnotationSight) : Type 0 where
+    sights : (l : Option ℕ) → sight_of view l ≡ sight_of s l
+    under : (v : Sight) → under_label view v ≡ under_label s v
+
+  binders_beside : (view : AnnotationSight) (bs : List (Place × ℕ)) → Beside view → Beside (with_binders view bs)
+  binders_beside view bs b = record { sights = by; under = b.under }
     where
-      by : (o : Option Sight) → sight_of s l ≡ o → option_map (under_label s) o ≡ Some u → EntryStands s seen (l, a)
+      by : (l : Option ℕ) → sight_of (with_binders view bs) l ≡ sight_of s l
+      by None = b.sights None
+      by (Some l) = b.sights (Some l)
+
+  -- one term at a label
+  entry : (view : AnnotationSight) (inner : Seen) → Beside view → (l : Option ℕ) (a : LogicTerm) (u : AnnotationSight) → option_map (under_label view) (sight_of view l) ≡ Some u → TermTyped u a → IsIntegerTerm a ⊎ IsPointerTerm a → TermRanged inner a
+      → AllStand ((l, a) ∷ [])
+  entry view inner beside l a u e typed side ranged x (inl same) = subst (EntryStands s seen) same (by (sight_of view l) refl e)
+    where
+      by : (o : Option Sight) → sight_of view l ≡ o → option_map (under_label view) o ≡ Some u → EntryStands s seen (l, a)
       by None there e = absurd cc
-      by (Some v) there e = let is : u ≡ under_label s v = cc in record { sight = v; there = there; typed = subst (λ u. TermTyped u a) is typed; side = side; ranged = ranged }
-  entry l a u e typed side ranged x (inr i) = absurd i
+      by (Some v) there e =
+          let is : u ≡ under_label view v = cc in
+          let typed_there : TermTyped (under_label view v) a = subst (λ u. TermTyped u a) is typed in record {
+            sight = v;
+            there = sym (beside.sights l) ∙ there;
+            typed = subst (λ u. TermTyped u a) (beside.under v) typed_there;
+            side = side;
+            ranged = term_alike (under_label view v) inner seen (under_alike view v inner seen) a typed_there ranged;
+          }
+  entry view inner beside l a u e typed side ranged x (inr i) = absurd i
 
   mutual
-    term_stands : (t : LogicTerm) → Operand t → TermTyped s t → TermRanged seen t → AllStand (in_term t)
-    term_stands (Number at t r n) o q g = none
-    term_stands (Letter at t r n) o q g = none
-    term_stands (Variable at t r x) o q g = none
-    term_stands (Unary at t r op a) o q g = term_stands a (OfSort (inl q.2)) q.3 g.1
-    term_stands (Binary at t r op a b) o q g = both (in_term a) (in_term b) (term_stands a (OfSort (inl q.1)) q.3 g.1) (term_stands b (OfSort (inl q.2)) q.4 g.2)
-    term_stands (Cast at t r to a) o q g = term_stands a (cast_operand t to a q.0) q.1 g.1
-    term_stands (Choice at t r c a b) o q g =
+    term_stands : (view : AnnotationSight) (inner : Seen) → Beside view → (t : LogicTerm) → Operand t → TermTyped view t → TermRanged inner t → AllStand (in_term t)
+    term_stands view inner beside (Number at t r n) o q g = none
+    term_stands view inner beside (Letter at t r n) o q g = none
+    term_stands view inner beside (Variable at t r x) o q g = none
+    term_stands view inner beside (Unary at t r op a) o q g = term_stands view inner beside a (OfSort (inl q.2)) q.3 g.1
+    term_stands view inner beside (Binary at t r op a b) o q g = both (in_term a) (in_term b) (term_stands view inner beside a (OfSort (inl q.1)) q.3 g.1) (term_stands view inner beside b (OfSort (inl q.2)) q.4 g.2)
+    term_stands view inner beside (Cast at t r to a) o q g = term_stands view inner beside a (cast_operand t to a q.0) q.1 g.1
+    term_stands view inner beside (Choice at t r c a b) o q g =
         let sides = choice_operands t a b q.0 in
-        both (in_predicate c) (in_term a ++ in_term b) (predicate_stands c q.1 g.1) (both (in_term a) (in_term b) (term_stands a sides.0 q.2 g.2) (term_stands b sides.1 q.3 g.3))
-    term_stands (Named at t r x) o q g = none
-    term_stands (At at t r Here a) (OfSort side) q g =
-        let here : Some s ≡ Some q.0 = q.1 in
-        let is : q.0 ≡ s = cc in
-        term_stands a (OfSort (same_side (At at t r Here a) a q.2 side)) (subst (λ u. TermTyped u a) is q.3) g.1
-    term_stands (At at t r Pre a) (OfSort side) q g = entry None a q.0 q.1 q.3 (same_side (At at t r Pre a) a q.2 side) g.1
-    term_stands (At at t r (Marked l) a) (OfSort side) q g = entry (Some l) a q.0 q.1 q.3 (same_side (At at t r (Marked l) a) a q.2 side) g.1
-    term_stands (At at t r l a) (AsPlace p) q g = absurd p
-    term_stands (At at t r l a) (AsZero z) q g = absurd z
-    term_stands (Null at t r) o q g = none
-    term_stands (Deref at t r a) o q g = term_stands a (OfSort (inr (q.0, q.2))) q.3 g.1
-    term_stands (Member at t r d a) o q g = term_stands a (AsPlace q.4) q.5 g.1
-    term_stands (Address at t r a) o q g = term_stands a (AsPlace q.3) q.4 g.1
-    term_stands (Moved at t r op n a b) o q g = both (in_term a) (in_term b) (term_stands a (OfSort (inr (q.0, q.2))) q.4 g.1) (term_stands b (OfSort (inl q.3)) q.5 g.2)
-    term_stands (Difference at t r n a b) o q g = both (in_term a) (in_term b) (term_stands a (OfSort (inr q.1)) q.3 g.1) (term_stands b (OfSort (inr q.2)) q.4 g.2)
-    term_stands (Told at t r f a) o q g = term_stands a (OfSort (inr q.1)) q.2 g.1
+        both (in_predicate c) (in_term a ++ in_term b) (predicate_here view inner beside c q.2 g.1) (both (in_term a) (in_term b) (term_stands view inner beside a sides.0 q.3 g.2) (term_stands view inner beside b sides.1 q.4 g.3))
+    term_stands view inner beside (Named at t r x) o q g = none
+    term_stands view inner beside (At at t r Here a) (OfSort side) q g =
+        let here : Some view ≡ Some q.0 = q.1 in
+        let is : q.0 ≡ view = cc in
+        term_stands view inner beside a (OfSort (same_side (At at t r Here a) a q.2 side)) (subst (λ u. TermTyped u a) is q.3) g.1
+    term_stands view inner beside (At at t r Pre a) (OfSort side) q g = entry view inner beside None a q.0 q.1 q.3 (same_side (At at t r Pre a) a q.2 side) g.1
+    term_stands view inner beside (At at t r (Marked l) a) (OfSort side) q g = entry view inner beside (Some l) a q.0 q.1 q.3 (same_side (At at t r (Marked l) a) a q.2 side) g.1
+    term_stands view inner beside (At at t r l a) (AsPlace p) q g = absurd p
+    term_stands view inner beside (At at t r l a) (AsZero z) q g = absurd z
+    term_stands view inner beside (Null at t r) o q g = none
+    term_stands view inner beside (Deref at t r a) o q g = term_stands view inner beside a (OfSort (inr (q.0, q.2))) q.3 g.1
+    term_stands view inner beside (Member at t r d a) o q g = term_stands view inner beside a (AsPlace q.4) q.5 g.1
+    term_stands view inner beside (Address at t r a) o q g = term_stands view inner beside a (AsPlace q.3) q.4 g.1
+    term_stands view inner beside (Moved at t r op n a b) o q g = both (in_term a) (in_term b) (term_stands view inner beside a (OfSort (inr (q.0, q.2))) q.4 g.1) (term_stands view inner beside b (OfSort (inl q.3)) q.5 g.2)
+    term_stands view inner beside (Difference at t r n a b) o q g = both (in_term a) (in_term b) (term_stands view inner beside a (OfSort (inr q.1)) q.3 g.1) (term_stands view inner beside b (OfSort (inr q.2)) q.4 g.2)
+    term_stands view inner beside (Told at t r f a) o q g = term_stands view inner beside a (OfSort (inr q.1)) q.2 g.1
 
-    links_stand : (a : LogicTerm) (links : Links) → LinksTyped s a links → LinksRanged seen links → AllStand (in_links links)
-    links_stand a NoLink q g = none
-    links_stand a (Linked at r t rest) q g =
-        both (in_term t) (in_links rest) (term_stands t (related_operands a t q.0).1 q.1 g.0) (links_stand t rest q.2 g.1)
+    links_stand : (view : AnnotationSight) (inner : Seen) → Beside view → (a : LogicTerm) (links : Links) → LinksTyped view a links → LinksRanged inner links → AllStand (in_links links)
+    links_stand view inner beside a NoLink q g = none
+    links_stand view inner beside a (Linked at r t rest) q g =
+        both (in_term t) (in_links rest) (term_stands view inner beside t (related_operands a t q.0).1 q.1 g.0) (links_stand view inner beside t rest q.2 g.1)
 
-    zone_stands : (z : Zone) → ZoneTyped s z → ZoneRanged seen z → AllStand (in_zone z)
-    zone_stands (Object at n m a) q g = term_stands a (OfSort (inr q.0)) q.1 g
-    zone_stands (Elements at n m a lo hi) q g =
-        both (in_term a) (in_term lo ++ in_term hi) (term_stands a (OfSort (inr q.0)) q.3 g.1)
-        (both (in_term lo) (in_term hi) (term_stands lo (OfSort (inl q.1)) q.4 g.2) (term_stands hi (OfSort (inl q.2)) q.5 g.3))
+    zone_stands : (view : AnnotationSight) (inner : Seen) → Beside view → (z : Zone) → ZoneTyped view z → ZoneRanged inner z → AllStand (in_zone z)
+    zone_stands view inner beside (Object at n m a) q g = term_stands view inner beside a (OfSort (inr q.0)) q.1 g
+    zone_stands view inner beside (Elements at n m a lo hi) q g =
+        both (in_term a) (in_term lo ++ in_term hi) (term_stands view inner beside a (OfSort (inr q.0)) q.3 g.1)
+        (both (in_term lo) (in_term hi) (term_stands view inner beside lo (OfSort (inl q.1)) q.4 g.2) (term_stands view inner beside hi (OfSort (inl q.2)) q.5 g.3))
 
-    zones_stand : (zs : Zones) → ZonesTyped s zs → ZonesRanged seen zs → AllStand (in_zones zs)
-    zones_stand NoZone q g = none
-    zones_stand (Another z rest) q g = both (in_zone z) (in_zones rest) (zone_stands z q.0 g.0) (zones_stand rest q.1 g.1)
+    zones_stand : (view : AnnotationSight) (inner : Seen) → Beside view → (zs : Zones) → ZonesTyped view zs → ZonesRanged inner zs → AllStand (in_zones zs)
+    zones_stand view inner beside NoZone q g = none
+    zones_stand view inner beside (Another z rest) q g = both (in_zone z) (in_zones rest) (zone_stands view inner beside z q.0 g.0) (zones_stand view inner beside rest q.1 g.1)
 
-    pub predicate_stands : (p : Predicate) → PredicateTyped s p → PredicateRanged seen p → AllStand (in_predicate p)
-    predicate_stands (Truth at b) q g = none
-    predicate_stands (NonZero at t) q g = term_stands t (OfSort (inl q.0)) q.1 g
-    predicate_stands (Chain at t NoLink) q g = absurd q.2
-    predicate_stands (Chain at t (Linked r k u rest)) q g =
-        both (in_term t) (in_term u ++ in_links rest) (term_stands t (related_operands t u q.1.0).0 q.0 g.0) (links_stand t (Linked r k u rest) q.1 g.1)
-    predicate_stands (Not at p) q g = predicate_stands p q g
-    predicate_stands (Connected at c p r) q g = both (in_predicate p) (in_predicate r) (predicate_stands p q.0 g.0) (predicate_stands r q.1 g.1)
-    predicate_stands (Branch at c p r) q g =
-        both (in_predicate c) (in_predicate p ++ in_predicate r) (predicate_stands c q.0 g.0) (both (in_predicate p) (in_predicate r) (predicate_stands p q.1 g.1) (predicate_stands r q.2 g.2))
-    predicate_stands (Quantified at k gs p) q g = absurd q
-    predicate_stands (Asks at f z) q g = zone_stands z q g
-    predicate_stands (Separated at zs) q g = zones_stand zs q g
+    predicate_here : (view : AnnotationSight) (inner : Seen) → Beside view → (p : Predicate) → PredicateTyped view p → PredicateRanged inner p → AllStand (in_predicate p)
+    predicate_here view inner beside (Truth at b) q g = none
+    predicate_here view inner beside (NonZero at t) q g = term_stands view inner beside t (OfSort (inl q.0)) q.1 g
+    predicate_here view inner beside (Chain at t NoLink) q g = absurd q.2
+    predicate_here view inner beside (Chain at t (Linked r k u rest)) q g =
+        both (in_term t) (in_term u ++ in_links rest) (term_stands view inner beside t (related_operands t u q.1.0).0 q.0 g.0) (links_stand view inner beside t (Linked r k u rest) q.1 g.1)
+    predicate_here view inner beside (Not at p) q g = predicate_here view inner beside p q g
+    predicate_here view inner beside (Connected at c p r) q g = both (in_predicate p) (in_predicate r) (predicate_here view inner beside p q.0 g.0) (predicate_here view inner beside r q.1 g.1)
+    predicate_here view inner beside (Branch at c p r) q g =
+        both (in_predicate c) (in_predicate p ++ in_predicate r) (predicate_here view inner beside c q.0 g.0) (both (in_predicate p) (in_predicate r) (predicate_here view inner beside p q.1 g.1) (predicate_here view inner beside r q.2 g.2))
+    predicate_here view inner beside (Quantified at k gs p) q g = guards_stand view inner beside gs p q g (λ view inner beside q g. predicate_here view inner beside p q g)
+    predicate_here view inner beside (Asks at f z) q g = zone_stands view inner beside z q g
+    predicate_here view inner beside (Separated at zs) q g = zones_stand view inner beside zs q g
 
--- ---- ranges where no name stands
+    guards_stand : (view : AnnotationSight) (inner : Seen) → Beside view → (gs : Guards) (p : Predicate) → GuardsTyped view gs (λ u. PredicateTyped u p) → GuardsRanged inner gs (λ m. PredicateRanged m p)
+        → ((view : AnnotationSight) (inner : Seen) → Beside view → PredicateTyped view p → PredicateRanged inner p → AllStand (in_predicate p)) → AllStand (in_guards gs ++ in_predicate p)
+    guards_stand view inner beside NoGuard p q g inside = inside view inner beside q g
+    guards_stand view inner beside (Guarded a y ys below b rest) p q g inside =
+        let others = guards_stand (with_binders view q.4) (seen_binders (range_of a).lo (y ∷ ys) (lowered below (range_of b).hi) inner) (binders_beside view q.4 beside) rest p q.6 g.3 inside in
+        subst AllStand (sym (append_assoc (in_term a) (in_term b ++ in_guards rest) (in_predicate p)))
+        (both (in_term a) ((in_term b ++ in_guards rest) ++ in_predicate p) (term_stands view inner beside a (OfSort (inl q.0)) q.2 g.0)
+        (subst AllStand (sym (append_assoc (in_term b) (in_guards rest) (in_predicate p))) (both (in_term b) (in_guards rest ++ in_predicate p) (term_stands view inner beside b (OfSort (inl q.1)) q.3 g.1) others)))
 
--- no name may stand in such a clause
-abbrev pub NoNames : ClauseSight → Type 0
-NoNames c = (t : Option PlainType) (x : Use) → IsResult c t x → ⊥
+  here_beside : Beside s
+  here_beside = record { sights = λ l. refl; under = λ v. refl }
 
--- nor under a label in it
-names_at : (view u : AnnotationSight) (l : Label) → sight_at view l ≡ Some u → NoNames view.clause → NoNames u.clause
-names_at view u Here e h = let same : view ≡ u = cc in subst (λ (u : AnnotationSight). NoNames u.clause) same h
-names_at view u Pre e h = under_any (beginning view.here view.clause) e
-  where
-    under_any : (o : Option Sight) → option_map (under_label view) o ≡ Some u → NoNames u.clause
-    under_any None e = absurd cc
-    under_any (Some v) e = let same : under_label view v ≡ u = cc in subst (λ (u : AnnotationSight). NoNames u.clause) same (λ t x i. i)
-names_at view u (Marked l) e h = under_any (marked l view.labels) e
-  where
-    under_any : (o : Option Sight) → option_map (under_label view) o ≡ Some u → NoNames u.clause
-    under_any None e = absurd cc
-    under_any (Some v) e = let same : under_label view v ≡ u = cc in subst (λ (u : AnnotationSight). NoNames u.clause) same (λ t x i. i)
+  pub predicate_stands : (p : Predicate) → PredicateTyped s p → PredicateRanged seen p → AllStand (in_predicate p)
+  predicate_stands p q g = predicate_here s seen here_beside p q g
 
--- so ranges are the same whatever names keep
-module _ (seen : Seen) where
-  mutual
-    pub term_alone : (view : AnnotationSight) → NoNames view.clause → (t : LogicTerm) → TermTyped view t → TermRanged seen t → TermRanged [] t
-    term_alone view h (Number at t r n) q g = g
-    term_alone view h (Letter at t r n) q g = g
-    term_alone view h (Variable at t r x) q g = g
-    term_alone view h (Unary at t r op a) q g = (g.0, term_alone view h a q.3 g.1)
-    term_alone view h (Binary at t r op a b) q g = (g.0, term_alone view h a q.3 g.1, term_alone view h b q.4 g.2)
-    term_alone view h (Cast at t r to a) q g = (g.0, term_alone view h a q.1 g.1)
-    term_alone view h (Choice at t r c a b) q g = (g.0, predicate_alone view h c q.1 g.1, term_alone view h a q.2 g.2, term_alone view h b q.3 g.3)
-    term_alone view h (Named at t r x) q g = absurd (h t x q)
-    term_alone view h (At at t r l a) q g = (g.0, term_alone q.0 (names_at view q.0 l q.1 h) a q.3 g.1)
-    term_alone view h (Null at t r) q g = g
-    term_alone view h (Deref at t r a) q g = (g.0, term_alone view h a q.3 g.1)
-    term_alone view h (Member at t r d a) q g = (g.0, term_alone view h a q.5 g.1)
-    term_alone view h (Address at t r a) q g = (g.0, term_alone view h a q.4 g.1)
-    term_alone view h (Moved at t r op n a b) q g = (g.0, term_alone view h a q.4 g.1, term_alone view h b q.5 g.2)
-    term_alone view h (Difference at t r n a b) q g = (g.0, term_alone view h a q.3 g.1, term_alone view h b q.4 g.2)
-    term_alone view h (Told at t r f a) q g = (g.0, term_alone view h a q.2 g.1)
-
-    links_alone : (view : AnnotationSight) → NoNames view.clause → (a : LogicTerm) (links : Links) → LinksTyped view a links → LinksRanged seen links → LinksRanged [] links
-    links_alone view h a NoLink q g = g
-    links_alone view h a (Linked at r t rest) q g = (term_alone view h t q.1 g.0, links_alone view h t rest q.2 g.1)
-
-    zone_alone : (view : AnnotationSight) → NoNames view.clause → (z : Zone) → ZoneTyped view z → ZoneRanged seen z → ZoneRanged [] z
-    zone_alone view h (Object at n m a) q g = term_alone view h a q.1 g
-    zone_alone view h (Elements at n m a lo hi) q g = (g.0, term_alone view h a q.3 g.1, term_alone view h lo q.4 g.2, term_alone view h hi q.5 g.3)
-
-    zones_alone : (view : AnnotationSight) → NoNames view.clause → (zs : Zones) → ZonesTyped view zs → ZonesRanged seen zs → ZonesRanged [] zs
-    zones_alone view h NoZone q g = g
-    zones_alone view h (Another z rest) q g = (zone_alone view h z q.0 g.0, zones_alone view h rest q.1 g.1)
-
-    pub predicate_alone : (view : AnnotationSight) → NoNames view.clause → (p : Predicate) → PredicateTyped view p → PredicateRanged seen p → PredicateRanged [] p
-    predicate_alone view h (Truth at b) q g = g
-    predicate_alone view h (NonZero at t) q g = term_alone view h t q.1 g
-    predicate_alone view h (Chain at t links) q g = (term_alone view h t q.0 g.0, links_alone view h t links q.1 g.1)
-    predicate_alone view h (Not at p) q g = predicate_alone view h p q g
-    predicate_alone view h (Connected at c p r) q g = (predicate_alone view h p q.0 g.0, predicate_alone view h r q.1 g.1)
-    predicate_alone view h (Branch at c p r) q g = (predicate_alone view h c q.0 g.0, predicate_alone view h p q.1 g.1, predicate_alone view h r q.2 g.2)
-    predicate_alone view h (Quantified at k gs p) q g = absurd q
-    predicate_alone view h (Asks at f z) q g = zone_alone view h z q g
-    predicate_alone view h (Separated at zs) q g = zones_alone view h zs q g
+  pub value_stands : (t : LogicTerm) → IsIntegerTerm t → TermTyped s t → TermRanged seen t → AllStand (in_term t)
+  value_stands t i q g = term_stands s seen here_beside t (OfSort (inl i)) q g

@@ -25,7 +25,7 @@ use Rattle.c_syntax.specs.Logic.{LogicTerm, NoLink, Linked, Zone, Zones, NoZone,
 use Rattle.c_syntax.specs.Logic as logic
 use Rattle.c_syntax.specs.Layouts.{int_size, IntegerType, PointerType}
 use Rattle.c_model.specs.Integers.{value_of_bits}
-use Rattle.c_model.specs.Logic.{Environment, at_mark, valued_at, TermValue, Mathematical, Addressed, held_at, load_from, pointer_at, mathematical, both, Answer, Says, SaysNothing, OutOfSteps, compute}
+use Rattle.c_model.specs.Logic.{Environment, at_mark, valued_at, TermValue, Mathematical, Addressed, held_at, load_from, pointer_at, mathematical, both, Answer, Says, SaysNothing, OutOfSteps, compute, lazily, fully, silenced, said}
 use Rattle.c_model.specs.Logic.{of_value, related, as_address, addressed, are_together, difference, fact, told, moved, Extent, object_extent, elements_extent, asks, all_apart}
 use Rattle.c_model.specs.Library.{is_there}
 use Rattle.c_model.specs.MemoryQuestions.{Address, Part, address_of, address_farther, inside, has_pointer}
@@ -34,7 +34,7 @@ use Rattle.c_model.specs.Together.{AllTogether}
 use Rattle.c_model.proofs.Together.{pointers_load}
 use Rattle.c_model.specs.Memory.{Pointer, Into, Value, Integer, Points, NoValue, Byte, Store, number_of, pointer_of, value_from, load, load_bytes}
 use Rattle.c_model.specs.Memory.{◌>>=◌ as bind_loaded}
-use Rattle.c_model.specs.Predicates.{compute_one, converted, in_type, chosen as chosen_term, with_extent, alignment_of, place, term, zone, zones, chain, pred}
+use Rattle.c_model.specs.Predicates.{compute_one, converted, in_type, chosen as chosen_term, connected as connected_answers, same_as, other_than, with_extent, alignment_of, place, term, zone, zones, chain, pred}
 use Rattle.c_model.specs.State.{State, Scope, find, mark_of, start_of}
 use Rattle.c_model.specs.TermRanges.{Seen, type_range, place_range, TermRanged, ZoneRanged, ZonesRanged, PredicateRanged}
 use Rattle.c_model.specs.TypedPredicates.{IsCastType}
@@ -52,7 +52,8 @@ use Rattle.annot_simulation.specs.Code.{is_same_reading, is_known, is_scalar, re
 use Rattle.annot_simulation.specs.Does.{HasIntegers, HasPointers, IsNumberFact, IsPointerFact, found_by, TermFound, PointerFound, PlaceFound, ZoneFound, ZonesFound, SideFound, PredicateFound}
 use Rattle.annot_simulation.proofs.Exact.{value_of}
 use Rattle.annot_simulation.proofs.Parts.{after, chosen}
-use Rattle.annot_simulation.proofs.Quiet.{AreSorted, none_sorted, IsNoPointer, IsNoNumber, said_again, says, said_by, turned, connected, not_says, connected_says, branch_says, chain_says, pred_quiet}
+use Rattle.annot_simulation.proofs.Connected.{IsStrict}
+use Rattle.annot_simulation.proofs.Quiet.{AreSorted, none_sorted, IsNoPointer, IsNoNumber, said_again, said_by, related_quiet}
 
 -- ---- the type of a variable with a range
 
@@ -247,7 +248,7 @@ number_found ks ns (logic.Cast at t r (OfC to) a) s e scope h f y q =
     let i = f.0 in
     no_typed i.int (term a s e) y (ap (λ k. in_type k (term a s e)) (sym i.is) ∙ q)
 number_found ks ns (logic.Choice at t r c a b) s e scope h f y q =
-    no_chosen (pred c s e 0) (term a s e) (term b s e) (number_found ks ns a s e scope h f.1) (number_found ks ns b s e scope h f.2) y q
+    no_chosen (pred c s e 0) (term a s e) (term b s e) (number_found ks ns a s e scope h f.2) (number_found ks ns b s e scope h f.3) y q
 number_found ks ns (logic.Deref at t r a) s e scope h f y q = no_held t f.0 s.store (as_address (term a s e)) y q
 number_found ks ns (logic.Member at t r d a) s e scope h f y q = no_held t f.0 s.store (option_map (λ x. address_farther x (pos d)) (place a s e)) y q
 number_found ks ns (logic.Difference at t r n a b) s e scope h f y q = no_difference s.store n (as_address (term a s e)) (as_address (term b s e)) y q
@@ -330,7 +331,7 @@ pointer_found ks ns (logic.Moved at t r op n a b) s e scope h f z q = moved_poin
 pointer_found ks ns (logic.Cast at t r Integers a) s e scope h f z q = absurd f.0
 pointer_found ks ns (logic.Cast at t r (OfC to) a) s e scope h f z q = cast_pointer f.0.0 (term a s e) z (ap (λ k. in_type k (term a s e)) (sym f.0.1) ∙ q)
 pointer_found ks ns (logic.Choice at t r c a b) s e scope h f z q =
-    chosen_pointer (pred c s e 0) (term a s e) (term b s e) (pointer_found ks ns a s e scope h f.1) (pointer_found ks ns b s e scope h f.2) z q
+    chosen_pointer (pred c s e 0) (term a s e) (term b s e) (pointer_found ks ns a s e scope h f.2) (pointer_found ks ns b s e scope h f.3) z q
 pointer_found ks ns (logic.Told at t r g a) s e scope h f z q = told_pointer g f.0 s.store (as_address (term a s e)) z q
 pointer_found ks ns (logic.Named at t r x) s e scope h f z q = h.pointers x.decl f z q
 pointer_found ks ns (logic.At at t r Here a) s e scope h f z q = pointer_found ks ns a s e scope h f z q
@@ -648,69 +649,88 @@ module _ (ks : List Kept) (ns : Sorted) (seen : Seen) (s : State) (names : Envir
       let x = with_there (zone z s names) (zones rest s names) es e in
       read-append s (sure_readings_of_zone z) (sure_readings_of_zones rest) (zone_read z q.0 f.0 x.0 x.2) (zones_read rest q.1 f.1 x.1 x.3)
 
-turned_some : (u : Option Bool) (b : Bool) → turned u ≡ Some b → (x : Bool) × (u ≡ Some x)
-turned_some u b e = chosen_some u (Some false) (Some true) b e
+-- ---- what a predicate says with some steps
 
--- both sides of `<==>` and `^^`
-iff_some : (u v : Option Bool) (b : Bool) → connected Iff u v ≡ Some b → (x : Bool) × (v ≡ Some x)
-iff_some None v b e = absurd cc
-iff_some (Some true) v b e = (b, e)
-iff_some (Some false) v b e = turned_some v b e
+pub lazy_first : (a : Answer) (on off : ℕ → Answer) (b : Bool) (k : ℕ) → lazily a on off ≡ Says b k → (x : Bool) × (j : ℕ) × (a ≡ Says x j)
+lazy_first (Says x j) on off b k is = (x, j, refl)
+lazy_first (SaysNothing j) on off b k is = absurd cc
+lazy_first OutOfSteps on off b k is = absurd cc
 
-xor_some : (u v : Option Bool) (b : Bool) → connected Xor u v ≡ Some b → (x : Bool) × (v ≡ Some x)
-xor_some None v b e = absurd cc
-xor_some (Some true) v b e = turned_some v b e
-xor_some (Some false) v b e = (b, e)
+silent : (a : Answer) (b : Bool) (k : ℕ) → silenced a ≡ Says b k → ⊥
+silent (Says x n) b k is = cc
+silent (SaysNothing n) b k is = cc
+silent OutOfSteps b k is = cc
 
-left_some : (c : Connective) (u v : Option Bool) (b : Bool) → connected c u v ≡ Some b → (x : Bool) × (u ≡ Some x)
-left_some And u v b e = chosen_some u v (Some false) b e
-left_some Or u v b e = chosen_some u (Some true) v b e
-left_some Implies u v b e = chosen_some u v (Some true) b e
-left_some Iff u v b e = chosen_some u v (turned v) b e
-left_some Xor u v b e = chosen_some u (turned v) v b e
+full_first : (a : Answer) (g : ℕ → Answer) (f : Bool → Answer → Answer) (b : Bool) (k : ℕ) → fully a g f ≡ Says b k → (x : Bool) × (j : ℕ) × (a ≡ Says x j) × (f x (g j) ≡ Says b k)
+full_first (Says x j) g f b k is = (x, j, refl, is)
+full_first (SaysNothing j) g f b k is = absurd (silent (g j) b k is)
+full_first OutOfSteps g f b k is = absurd cc
 
-connected_read : (s : State) (names : Environment) (at : Place) (c : Connective) (p q : Predicate) (b : Bool) → ((x : Bool) → says p s names ≡ Some x → AllRead s (sure_readings p))
-    → ((y : Bool) → says q s names ≡ Some y → AllRead s (sure_readings q))
-    → connected c (says p s names) (says q s names) ≡ Some b → AllRead s (sure_readings (logic.Connected at c p q))
-connected_read s names at And p q b left right e = let x = left_some And (says p s names) (says q s names) b e in left x.0 x.1
-connected_read s names at Or p q b left right e = let x = left_some Or (says p s names) (says q s names) b e in left x.0 x.1
-connected_read s names at Implies p q b left right e = let x = left_some Implies (says p s names) (says q s names) b e in left x.0 x.1
-connected_read s names at Iff p q b left right e =
-    let x = left_some Iff (says p s names) (says q s names) b e in
-    let y = iff_some (says p s names) (says q s names) b e in
-    read-append s (sure_readings p) (sure_readings q) (left x.0 x.1) (right y.0 y.1)
-connected_read s names at Xor p q b left right e =
-    let x = left_some Xor (says p s names) (says q s names) b e in
-    let y = xor_some (says p s names) (says q s names) b e in
-    read-append s (sure_readings p) (sure_readings q) (left x.0 x.1) (right y.0 y.1)
+same_says : (x : Bool) (a : Answer) (b : Bool) (k : ℕ) → same_as x a ≡ Says b k → (y : Bool) × (j : ℕ) × (a ≡ Says y j)
+same_says true a b k is = (b, k, is)
+same_says false a b k is = lazy_first a _ _ b k is
+
+other_says : (x : Bool) (a : Answer) (b : Bool) (k : ℕ) → other_than x a ≡ Says b k → (y : Bool) × (j : ℕ) × (a ≡ Says y j)
+other_says true a b k is = lazy_first a _ _ b k is
+other_says false a b k is = (b, k, is)
+
+-- a relation takes no step
+pub related_says : (store : Store) (r : Relation) (a b : Option TermValue) (n : ℕ) (x : Bool) (k : ℕ) → related store r a b n ≡ Says x k → said_by (related store r a b 0) ≡ Some x
+related_says store r a b n x k is = sym (said_again (said_by (related store r a b 0)) n) ∙ ap said_by (sym (related_quiet store r a b n) ∙ is)
+
+connected_read : (s : State) (e : Environment) (at : Place) (c : Connective) (p q : Predicate) (n : ℕ) (b : Bool) (k : ℕ) → ((x : Bool) (j : ℕ) → pred p s e n ≡ Says x j → AllRead s (sure_readings p))
+    → ((i : ℕ) (y : Bool) (j : ℕ) → pred q s e i ≡ Says y j → AllRead s (sure_readings q))
+    → connected_answers c (pred p s e n) (pred q s e) ≡ Says b k → AllRead s (sure_readings (logic.Connected at c p q))
+connected_read s e at And p q n b k left right is = let x = lazy_first (pred p s e n) (pred q s e) (Says false) b k is in left x.0 x.1 x.2
+connected_read s e at Or p q n b k left right is = let x = lazy_first (pred p s e n) (Says true) (pred q s e) b k is in left x.0 x.1 x.2
+connected_read s e at Implies p q n b k left right is = let x = lazy_first (pred p s e n) (pred q s e) (Says true) b k is in left x.0 x.1 x.2
+connected_read s e at Iff p q n b k left right is =
+    let x = full_first (pred p s e n) (pred q s e) same_as b k is in
+    let y = same_says x.0 (pred q s e x.1) b k x.3 in
+    read-append s (sure_readings p) (sure_readings q) (left x.0 x.1 x.2) (right x.1 y.0 y.1 y.2)
+connected_read s e at Xor p q n b k left right is =
+    let x = full_first (pred p s e n) (pred q s e) other_than b k is in
+    let y = other_says x.0 (pred q s e x.1) b k x.3 in
+    read-append s (sure_readings p) (sure_readings q) (left x.0 x.1 x.2) (right x.1 y.0 y.1 y.2)
+
+said_some : (o : Option Bool) (n : ℕ) (b : Bool) (k : ℕ) → said o n ≡ Says b k → o ≡ Some b
+said_some o n b k is = sym (said_again o n) ∙ ap said_by is
 
 module _ (ks : List Kept) (ns : Sorted) (seen : Seen) (s : State) (names : Environment) (sorted : AreSorted ns s names) (all : AllTogether s.store) where
-  pub pred_read : (p : Predicate) → PredicateRanged seen p → PredicateFound ks s.scope ns p → (b : Bool) → says p s names ≡ Some b → AllRead s (sure_readings p)
-  pred_read (logic.Truth at v) q f b e = tt
-  pred_read (logic.NonZero at t) q f b e =
-      let x = related_there s.store Ne (term t s names) (Some (Mathematical (pos 0))) b e in term_read ks ns seen s names sorted all t q f x.0.0 x.0.1
-  pred_read (logic.Chain at t NoLink) q f b e = tt
-  pred_read (logic.Chain at t (Linked at2 r u rest)) q f b e =
-      let x = chosen_some (said_by (related s.store r (term t s names) (term u s names) 0)) (said_by (chain (term u s names) rest s names 0)) (Some false) b (sym (chain_says r (term t s names) u rest s names) ∙ e) in
-      relation_read ks ns seen s names sorted all r t u q.0 q.1.0 f.0 f.1.1 x.0 x.1
-  pred_read (logic.Not at p) q f b e = let x = turned_some (says p s names) b (sym (not_says ks ns p s names f) ∙ e) in pred_read p q f x.0 x.1
-  pred_read (logic.Connected at c p q) h f b e =
-      connected_read s names at c p q b (λ x g. pred_read p h.0 f.0 x g) (λ x g. pred_read q h.1 f.1 x g)
-      (sym (connected_says c (pred p s names) (pred q s names) (pred_quiet ks ns p s names f.0) (pred_quiet ks ns q s names f.1)) ∙ e)
-  pred_read (logic.Branch at c p q) h f b e =
-      let x = chosen_some (says c s names) (says p s names) (says q s names) b (sym (branch_says ks ns c p q s names f.0 f.1 f.2) ∙ e) in pred_read c h.0 f.0 x.0 x.1
-  pred_read (logic.Asks at g z) q f b e =
-      let x = mapped_there (asks g s.store (alignment_of z)) (zone z s names) b (sym (said_again (option_map (asks g s.store (alignment_of z)) (zone z s names)) 0) ∙ e) in
+  pub pred_read : (p : Predicate) → PredicateRanged seen p → PredicateFound ks s.scope ns p → (n : ℕ) (b : Bool) (k : ℕ) → pred p s names n ≡ Says b k → AllRead s (sure_readings p)
+  pred_read (logic.Truth at v) q f n b k e = tt
+  pred_read (logic.NonZero at t) q f n b k e =
+      let x = related_there s.store Ne (term t s names) (Some (Mathematical (pos 0))) b (related_says s.store Ne (term t s names) (Some (Mathematical (pos 0))) n b k e) in
+      term_read ks ns seen s names sorted all t q f x.0.0 x.0.1
+  pred_read (logic.Chain at t NoLink) q f n b k e = tt
+  pred_read (logic.Chain at t (Linked at2 r u rest)) q f n b k e =
+      let x = lazy_first (related s.store r (term t s names) (term u s names) n) (chain (term u s names) rest s names) (Says false) b k e in
+      relation_read ks ns seen s names sorted all r t u q.0 q.1.0 f.0 f.1.1 x.0 (related_says s.store r (term t s names) (term u s names) n x.0 x.1 x.2)
+  pred_read (logic.Not at p) q f n b k e = let x = lazy_first (pred p s names n) (Says false) (Says true) b k e in pred_read p q f n x.0 x.1 x.2
+  pred_read (logic.Connected at c p q) h f n b k e =
+      connected_read s names at c p q n b k (λ x j g. pred_read p h.0 f.0 n x j g) (λ i y j g. pred_read q h.1 f.1 i y j g) e
+  pred_read (logic.Branch at c p q) h f n b k e =
+      let x = lazy_first (pred c s names n) (pred p s names) (pred q s names) b k e in pred_read c h.0 f.0 n x.0 x.1 x.2
+  pred_read (logic.Asks at g z) q f n b k e =
+      let x = mapped_there (asks g s.store (alignment_of z)) (zone z s names) b (said_some (option_map (asks g s.store (alignment_of z)) (zone z s names)) n b k e) in
       zone_read ks ns seen s names sorted all z q f x.0 x.1
-  pred_read (logic.Separated at zs) q f b e =
-      let x = mapped_there all_apart (zones zs s names) b (sym (said_again (option_map all_apart (zones zs s names)) 0) ∙ e) in zones_read ks ns seen s names sorted all zs q f x.0 x.1
-  pred_read (logic.Quantified at g gs p) q f b e = absurd f
+  pred_read (logic.Separated at zs) q f n b k e =
+      let x = mapped_there all_apart (zones zs s names) b (said_some (option_map all_apart (zones zs s names)) n b k e) in zones_read ks ns seen s names sorted all zs q f x.0 x.1
+  pred_read (logic.Quantified at g gs p) q f n b k e = tt
 
   -- what is known at the right side of a connective, wherever that matters
   pub known_right : (c : Connective) (known : List Reading) (p : Predicate) → PredicateRanged seen p → PredicateFound ks s.scope ns p → AllRead s known
-      → (b : Bool) → says p s names ≡ Some b → AllRead s (known_at_right c known p)
-  known_right And known p q f h b e = read-append s known (sure_readings p) h (pred_read p q f b e)
-  known_right Or known p q f h b e = read-append s known (sure_readings p) h (pred_read p q f b e)
-  known_right Implies known p q f h b e = read-append s known (sure_readings p) h (pred_read p q f b e)
-  known_right Iff known p q f h b e = h
-  known_right Xor known p q f h b e = h
+      → (n : ℕ) (b : Bool) (k : ℕ) → pred p s names n ≡ Says b k → AllRead s (known_at_right c known p)
+  known_right And known p q f h n b k e = read-append s known (sure_readings p) h (pred_read p q f n b k e)
+  known_right Or known p q f h n b k e = read-append s known (sure_readings p) h (pred_read p q f n b k e)
+  known_right Implies known p q f h n b k e = read-append s known (sure_readings p) h (pred_read p q f n b k e)
+  known_right Iff known p q f h n b k e = h
+  known_right Xor known p q f h n b k e = h
+
+-- the same where both sides are asked
+pub known_strict : (s : State) (c : Connective) → IsStrict c → (known : List Reading) (p : Predicate) → AllRead s known → AllRead s (known_at_right c known p)
+known_strict s And h known p all = elim h [ ]
+known_strict s Or h known p all = elim h [ ]
+known_strict s Implies h known p all = elim h [ ]
+known_strict s Iff h known p all = all
+known_strict s Xor h known p all = all

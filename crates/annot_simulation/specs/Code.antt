@@ -1,7 +1,7 @@
 -- Ours: a choice of code; what it has to do is ACSL 2.2, by the theorem of this crate.
 -- The code of terms, pointers, places, zones and predicates. A term is an expression, after questions whether what it reads can be read and after what is
 -- evaluated only at times.
-use Rattle.std.specs.Prelude.{ℕ, pos, Bool, true, false, ◌&&◌, if◌then◌else◌, nat_eq, List, [], ◌∷◌, ◌++◌, length, Option, Some, None}
+use Rattle.std.specs.Prelude.{ℕ, suc, pos, Bool, true, false, ◌&&◌, if◌then◌else◌, nat_eq, List, [], ◌∷◌, ◌++◌, length, Option, Some, None}
 use Rattle.std.specs.List.{list_any}
 use Rattle.c_syntax.specs.declared.annotation.Relation.{Relation}
 use Rattle.c_syntax.specs.declared.logic.Connective.{Connective}
@@ -9,13 +9,17 @@ use Rattle.c_syntax.specs.declared.logic.Connective.TheVariants as connective
 use Rattle.c_syntax.specs.declared.logic.Label.TheVariants.{Here, Pre, Marked}
 use Rattle.c_syntax.specs.Ctypes.{PlainType}
 use Rattle.c_syntax.specs.Ctypes as ctype
+use Rattle.c_syntax.specs.declared.logic.Quantifier.{Quantifier}
 use Rattle.c_syntax.specs.Logic.{LogicTerm, Links, NoLink, Linked, Zone, Zones, NoZone, Another, Predicate, ClauseBody, Raw, Holds, Value, Behaviors}
+use Rattle.c_syntax.specs.Logic.{Guards, NoGuard, Guarded}
 use Rattle.c_syntax.specs.Logic.{Annotation, range_of}
 use Rattle.c_syntax.specs.Logic as logic
 use Rattle.c_syntax.specs.Programs.{TranslationUnit}
 use Rattle.c_model.specs.Predicates.{alignment_of}
 use Rattle.c_model.specs.PredicateTyping.{place_of_term}
+use Rattle.c_model.specs.Quantifiers.{undecided}
 use Rattle.c_model.specs.Ranges.{width_of_range}
+use Rattle.c_model.specs.TermRanges.{lowered}
 use Rattle.mon_syntax.specs.declared.tree.MonOp.TheVariants.{Eq, Ne}
 use Rattle.mon_syntax.specs.declared.tree.MonType.{MonType}
 use Rattle.mon_syntax.specs.declared.tree.MonType.TheVariants.{I32}
@@ -27,6 +31,7 @@ use Rattle.mem_preds.specs.Questions.{asked}
 use Rattle.c_effects.specs.Expressions.{before, one, set, in_type, pointer_to}
 use Rattle.c_simulation.specs.Keeping.{Kept}
 pub use Rattle.c_simulation.specs.Keeping.{is_pointer_sort, is_pointer_term}
+use Rattle.annot_simulation.specs.Binders.{bounded_code, bounds_relation}
 pub use Rattle.annot_simulation.specs.Held.{Held, held_by, held_code, held_pointer, kept_at, kept_code, kept_pointer}
 pub use Rattle.annot_simulation.specs.Pieces.{term_type, access_of, relation_operator, Code, sure_code, no_code, with_value, conjunction, guarded}
 pub use Rattle.annot_simulation.specs.Pieces.{two_code, take}
@@ -300,8 +305,19 @@ module _ (p : TranslationUnit) (bound : Bindings) (plan : List Kept) where
         branch I32 z x (pred_code b held (known ++ sure_readings c) x.used)
     pred_code (logic.Asks at f z) held known rs = zone_asked f (alignment_of z) (zone_code z held known rs)
     pred_code (logic.Separated at zs) held known rs = separated_code (zones_code zs held known rs)
-    -- quantifiers have no code yet
-    pred_code (logic.Quantified at quantifier guards q) held known rs = truth_code false rs
+    pred_code (logic.Quantified at q gs a) held known rs = guards_code q gs (pred_code a) held known rs
+
+    -- what stands within guards has its code by the names that are held and the variables that were read there
+    pub guards_code : Quantifier → Guards → (List Held → List Reading → List MonType → Code) → List Held → List Reading → List MonType → Code
+    guards_code q NoGuard inner held known rs = inner held known rs
+    guards_code q (Guarded a y ys below b rest) inner held known rs =
+        let u = term_code a held known rs in
+        let v = term_code b held known u.used in
+        let k = type_of_width (wider (width_of a) (width_of b)) in
+        let more = known ++ (sure_readings_of_term a ++ sure_readings_of_term b) in
+        let c = bounded_code q below k (in_type (type_of a) k u.value) (in_type (type_of b) k v.value) (range_of a).lo (lowered below (range_of b).hi)
+        (y ∷ ys) (λ names js. guards_code q rest inner names more js) held v.used in
+        branch I32 (relation_code (bounds_relation below) a b u v) c (truth_code (undecided q) c.used)
 
   -- a side of a relation
   abbrev pub side_code : LogicTerm → List Held → List Reading → List MonType → Side
@@ -337,6 +353,26 @@ judged_with (Some e) c = judged_anew e c
 -- the code of a predicate, after registers of these types
 abbrev pub judgement : TranslationUnit → Bindings → List Kept → List Held → Predicate → List MonType → Judgement
 judgement p bound plan held q rs = let x = pred_code p bound plan q held [] rs in judged_with x.flag x
+
+-- ---- the flag and the number of a term in registers
+
+-- statements, a flag register, a register that holds the number where there is one, and the types of all registers that are taken then
+pub record Valuation : Type 0 where
+  pub stmts : MonStatements
+  pub flag : ℕ
+  pub value : ℕ
+  pub used : List MonType
+
+-- the code of an integer term, after registers of these types
+abbrev pub valuation : TranslationUnit → Bindings → List Kept → List Held → LogicTerm → List MonType → Valuation
+valuation p bound plan held t rs =
+    let x = term_code p bound plan t held [] rs in
+    record {
+      stmts = before x.stmts (take x.flag x.value (length x.used));
+      flag = length x.used;
+      value = suc (length x.used);
+      used = x.used ++ I32 ∷ type_of t ∷ [];
+    }
 
 -- ---- annotations
 

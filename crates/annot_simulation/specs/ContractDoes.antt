@@ -73,7 +73,7 @@ pub record StandsFor (n m : ℕ) (w : Setting) : Type 0 where
   pub apart : StandsApart n m w
   pub held : (x : ℕ) (h : Held) → held_by x w.held ≡ Some h → IsHeldApart n m w x h
   pub keeps : (at : ℕ) (k : Kept) → kept_at at w.plan ≡ Some k → HasKept w k × ((k.register + registers_of k.term ≤ n) ⊎ (m ≤ k.register))
-  pub ranges : (k : ℕ) → RangesHold w.plan (sorts_held w.held) w.seen (left_with k w.now) w.names
+  pub ranges : (k : ℕ) → RangesHold w.seen (left_with k w.now) w.names
 
 -- ---- what checks are made of
 
@@ -108,7 +108,7 @@ module _ (w : Setting) (bs : List NamedBehavior) (h : ℕ) where
 -- the code of checks does what they do, in their order, from so many steps on; the flags stand from h on, and the registers from n to m may change meanwhile
 abbrev pub ChecksFollow : Type 0
 ChecksFollow =
-    (w : Setting) (n m : ℕ) → StandsFor n m w → (bs : List NamedBehavior) (h : ℕ) → n ≤ h → (cs : List Check) (i : ℕ)
+    (w : Setting) (n m : ℕ) → StandsFor n m w → (bs : List NamedBehavior) (h : ℕ) → n ≤ h → (cs : List Check) (i : ℕ) → i ≤ w.turns
     → (hs : List Bool) → length hs ≡ length bs → AreGood w bs h (length hs) cs → (h + length hs) ≤ m
     → (rs : List MonType) → w.low ≤ length rs → (h + length hs) ≤ length rs
     → (regs : List Value) → length (behind_checks w.unit w.bound w.plan w.held bs h None rs cs) ≤ length regs → Flagged h hs regs

@@ -13,15 +13,16 @@ use Rattle.mon_syntax.specs.Registers.{Bindings}
 use Rattle.mon_syntax.specs.Trees.{MonStatements}
 use Rattle.mon_syntax.specs.Valid.{AreStatements, Labels, Signature, Types, depth_of_all, has_no_step}
 use Rattle.c_simulation.specs.Keeping.{Kept, is_pointer_term}
+use Rattle.quantifier_loops.specs.Laws.{IsNumber}
 use Rattle.annot_simulation.specs.ContractCode.{behind_checks, checks_code, flags_from}
 use Rattle.annot_simulation.specs.ContractDoes.{AreNamed}
 use Rattle.annot_simulation.specs.Does.{found_by}
-use Rattle.annot_simulation.specs.Held.{Held}
+use Rattle.annot_simulation.specs.Held.{Held, sorts_held}
 use Rattle.annot_simulation.specs.Inside.{StayInside, open_in_all}
 use Rattle.annot_simulation.specs.Numbered.{IsNumbered}
 use Rattle.annot_simulation.specs.Plan.{value_types}
 use Rattle.annot_simulation.specs.Snapshots.{behind_snapshot, snapshot}
-use Rattle.annot_simulation.specs.Validity.{Begins, PointerWritable, PredicateWritable, StandIn, TermWritable, most_deep, most_open}
+use Rattle.annot_simulation.specs.Validity.{AreOutside, Begins, HeldTyped, PointerWritable, PredicateWritable, StandIn, TermWritable, most_deep, most_open}
 
 -- among functions of these signatures, in a function of the result with registers of these types, inside bodies of these labels
 pub record AreValid (globals : ℕ) (gs : List Signature) (ts : Types) (result : Option MonType) (ls : Labels) (a : MonStatements) : Type 0 where
@@ -45,7 +46,8 @@ AreKeepable p bound globals ts l (k ∷ ks) =
 abbrev pub SnapshotsAreValid : Type 0
 SnapshotsAreValid =
     (p : TranslationUnit) (bound : Bindings) (globals : ℕ) (gs : List Signature) (ts : Types) (result : Option MonType) (ls : Labels) (l : Option ℕ)
-    (ks : List Kept) (rs : List MonType) → AreKeepable p bound globals ts l ks → Begins (behind_snapshot p bound l rs ks) ts
+    (ks : List Kept) (rs : List MonType) → AreKeepable p bound globals ts l ks → IsNumber (length ts) → AreOutside ls (length rs)
+    → Begins (behind_snapshot p bound l rs ks) ts
     → AreValid globals gs ts result ls (snapshot p bound l rs ks)
 
 -- ---- checks
@@ -54,7 +56,7 @@ module _ (p : TranslationUnit) (bound : Bindings) (plan : List Kept) (held : Lis
   -- a clause that is typed, ranged and short, or names behaviors there are
   abbrev pub ClauseWritable : ClauseBody → Type 0
   ClauseWritable (Raw f) = ⊥
-  ClauseWritable (Holds q) = PredicateRanged seen q × PredicateWritable p bound plan globals ts held q × (tokens_of_predicate q ≤ 400)
+  ClauseWritable (Holds q) = PredicateRanged seen q × PredicateWritable p bound plan globals ts (sorts_held held) q × (tokens_of_predicate q ≤ 400)
   ClauseWritable (logic.Value t) = ⊥
   ClauseWritable (Behaviors names) = AreNamed bs names
 
@@ -73,5 +75,6 @@ abbrev pub ChecksAreValid : Type 0
 ChecksAreValid =
     (p : TranslationUnit) (bound : Bindings) (plan : List Kept) (held : List Held) (seen : Seen) (globals : ℕ) (gs : List Signature) (ts : Types)
     (result : Option MonType) (ls : Labels) (bs : List NamedBehavior) (h : ℕ) (cs : List Check) (rs : List MonType)
-    → AreCheckable p bound plan held seen globals ts bs (length bs) cs → AreFlags ts (flags_from h bs)
+    → AreCheckable p bound plan held seen globals ts bs (length bs) cs → IsNumber (length ts) → HeldTyped ts held → AreOutside ls (length rs)
+    → AreFlags ts (flags_from h bs)
     → Begins (behind_checks p bound plan held bs h None rs cs) ts → AreValid globals gs ts result ls (checks_code p bound plan held bs h None rs cs)

@@ -1,6 +1,6 @@
 -- What the code of a predicate does, over the blocks of the source's store: its flag register says whether the predicate says something, and its truth
 -- register whether that is true.
-use Rattle.std.specs.Prelude.{◌≡◌, ℕ, ◌+◌, ◌≤◌, ℤ, pos, Bool, true, false, List, [], length, Option, Some, None, slice_get}
+use Rattle.std.specs.Prelude.{◌≡◌, ℕ, ◌+◌, ◌≤◌, ℤ, pos, Bool, true, false, List, [], length, Option, Some, None, slice_get, ◌∷◌}
 use Rattle.c_syntax.specs.declared.annotation.Range.{Range}
 use Rattle.c_syntax.specs.declared.types.CInt.{CInt}
 use Rattle.c_syntax.specs.declared.logic.BlockFact.{BlockFact}
@@ -9,16 +9,17 @@ use Rattle.c_syntax.specs.declared.logic.Label.TheVariants.{Here, Pre, Marked}
 use Rattle.c_syntax.specs.Ctypes.{PlainType, Int}
 use Rattle.c_syntax.specs.Ctypes as ctype
 use Rattle.c_syntax.specs.Formulas.{CastType, Integers, OfC}
-use Rattle.c_syntax.specs.Logic.{LogicTerm, Links, NoLink, Linked, Zone, Zones, NoZone, Another, Predicate, range_of}
+use Rattle.c_syntax.specs.Logic.{LogicTerm, Links, NoLink, Linked, Zone, Zones, NoZone, Another, Predicate, Guards, NoGuard, Guarded}
 use Rattle.c_syntax.specs.Logic as logic
 use Rattle.c_syntax.specs.Programs.{TranslationUnit}
 use Rattle.c_model.specs.Integers.{truth as number_of}
 use Rattle.c_model.specs.Memory.{Pointer, Into, Value, Integer, Points, Store}
 use Rattle.c_model.specs.MemoryQuestions.{Address}
 use Rattle.c_model.specs.Together.{AllTogether}
-use Rattle.c_model.specs.Logic.{Mathematical, Environment, look, meant, of_value, Answer, Says, SaysNothing, OutOfSteps, said}
+use Rattle.c_model.specs.QuietPredicates.{IsQuiet}
+use Rattle.c_model.specs.Logic.{TermValue, Mathematical, Environment, look, meant, of_value, Answer, Says, SaysNothing, OutOfSteps, said}
 use Rattle.c_model.specs.Predicates.{term, pred}
-use Rattle.c_model.specs.Ranges.{LiesIn, IsWithin128}
+use Rattle.c_model.specs.Ranges.{LiesIn}
 use Rattle.c_model.specs.State.{State, Scope, find}
 use Rattle.c_model.specs.TermRanges.{Seen, range_seen, TermRanged, PredicateRanged}
 use Rattle.c_model.specs.TypedPredicates.{IsCastType}
@@ -38,8 +39,9 @@ use Rattle.c_model.specs.PredicateTyping.{place_of_term}
 use Rattle.mon_syntax.specs.declared.tree.MonType.TheVariants.{Ptr}
 use Rattle.mon_syntax.specs.Checking.{same_type}
 use Rattle.c_simulation.specs.Keeping.{Kept, GivesTerm, kept_value, registers_of}
-use Rattle.annot_simulation.specs.Code.{is_pointer_term, Judgement, judgement}
-use Rattle.annot_simulation.specs.Held.{Held, Sorted, held_by, kept_at, sort_held, sorts_held}
+use Rattle.interval_infer.specs.Terms.{NamesFit, StateFits}
+use Rattle.annot_simulation.specs.Code.{is_pointer_term, Judgement, judgement, valuation}
+use Rattle.annot_simulation.specs.Held.{Held, Sorted, held_by, kept_at, sort_held, sorts_held, sorts_within}
 
 abbrev pub Target : Type 0
 Target = monitored.State Blocks
@@ -158,7 +160,7 @@ pub record Planned (ks : List Kept) (l : Option ℕ) (a : LogicTerm) : Type 0 wh
   pub label_is : entry.label ≡ l
   pub term_is : entry.term ≡ a
 
--- the variables and the names that are read are in sight; terms are of the sorts that their forms want, and there are no quantifiers
+-- the variables and the names that are read are in sight; terms are of the sorts that their forms want, and their conditions take no step
 abbrev mutual
   -- an integer
   pub TermFound : List Kept → Scope → Sorted → LogicTerm → Type 0
@@ -168,7 +170,8 @@ abbrev mutual
   TermFound ks scope ns (logic.Unary at t r op a) = TermFound ks scope ns a
   TermFound ks scope ns (logic.Binary at t r op a b) = TermFound ks scope ns a × TermFound ks scope ns b
   TermFound ks scope ns (logic.Cast at t r to a) = IsCastType to × TermFound ks scope ns a
-  TermFound ks scope ns (logic.Choice at t r c a b) = PredicateFound ks scope ns c × TermFound ks scope ns a × TermFound ks scope ns b
+  TermFound ks scope ns (logic.Choice at t r c a b) =
+      IsQuiet c × PredicateFound ks scope ns c × TermFound ks scope ns a × TermFound ks scope ns b
   TermFound ks scope ns (logic.Deref at t r a) = HasIntegers t × PointerFound ks scope ns a
   TermFound ks scope ns (logic.Member at t r d a) = HasIntegers t × PlaceFound ks scope ns a
   -- no element has no bytes
@@ -190,7 +193,8 @@ abbrev mutual
   PointerFound ks scope ns (logic.Address at t r a) = PlaceFound ks scope ns a
   PointerFound ks scope ns (logic.Moved at t r op n a b) = PointerFound ks scope ns a × TermFound ks scope ns b
   PointerFound ks scope ns (logic.Cast at t r to a) = GivesPointers to × PointerFound ks scope ns a
-  PointerFound ks scope ns (logic.Choice at t r c a b) = PredicateFound ks scope ns c × PointerFound ks scope ns a × PointerFound ks scope ns b
+  PointerFound ks scope ns (logic.Choice at t r c a b) =
+      IsQuiet c × PredicateFound ks scope ns c × PointerFound ks scope ns a × PointerFound ks scope ns b
   PointerFound ks scope ns (logic.Told at t r f a) = IsPointerFact f × PointerFound ks scope ns a
   PointerFound ks scope ns (logic.Named at t r x) = sort_held x.decl ns ≡ Some true
   PointerFound ks scope ns (logic.At at t r Here a) = PointerFound ks scope ns a
@@ -229,17 +233,23 @@ abbrev mutual
   PredicateFound ks scope ns (logic.Not at p) = PredicateFound ks scope ns p
   PredicateFound ks scope ns (logic.Connected at c p q) = PredicateFound ks scope ns p × PredicateFound ks scope ns q
   PredicateFound ks scope ns (logic.Branch at c p q) = PredicateFound ks scope ns c × PredicateFound ks scope ns p × PredicateFound ks scope ns q
-  PredicateFound ks scope ns (logic.Quantified at q gs p) = ⊥
+  PredicateFound ks scope ns (logic.Quantified at q gs p) = GuardsFound ks scope ns gs (λ ns. PredicateFound ks scope ns p)
   PredicateFound ks scope ns (logic.Asks at f z) = ZoneFound ks scope ns z
   PredicateFound ks scope ns (logic.Separated at zs) = ZonesFound ks scope ns zs
+
+  -- bounds are integers, and what stands within guards is found where their binders are names
+  pub GuardsFound : List Kept → Scope → Sorted → Guards → (Sorted → Type 0) → Type 0
+  GuardsFound ks scope ns NoGuard p = p ns
+  GuardsFound ks scope ns (Guarded a y ys below b rest) p =
+      TermFound ks scope ns a × TermFound ks scope ns b × GuardsFound ks scope (sorts_within (y ∷ ys) ns) rest p
 
 abbrev pub SideFound : List Kept → Scope → Sorted → LogicTerm → Type 0
 SideFound ks scope ns t = found_by (is_pointer_term t) (PointerFound ks scope ns t) (TermFound ks scope ns t)
 
--- terms that keep their ranges have their values there, where names keep these
-pub record RangesHold (ks : List Kept) (ns : Sorted) (m : Seen) (s : State) (e : Environment) : Type 0 where
-  pub lies : (t : LogicTerm) → TermFound ks s.scope ns t → TermRanged m t → (z : ℤ) → term t s e ≡ Some (Mathematical z) → LiesIn (range_of t) z
-  pub within : (t : LogicTerm) → TermRanged m t → IsWithin128 (range_of t)
+-- terms that keep their ranges have their values in them: what memory holds has its type, and names have values of these ranges
+pub record RangesHold (m : Seen) (s : State) (e : Environment) : Type 0 where
+  pub state : StateFits s
+  pub names : NamesFit m s e
 
 -- ---- what statements come to
 
@@ -269,16 +279,28 @@ Judges w rs j (Says b k) = Finishes w j.stmts (length rs) k (IsJudged j.flag j.t
 Judges w rs j (SaysNothing k) = Finishes w j.stmts (length rs) k (IsJudged j.flag j.truth None)
 Judges w rs j OutOfSteps = IsSpent w j.stmts
 
--- so it is for each predicate that keeps its ranges, where there are registers enough
+-- so it is for each predicate that keeps its ranges, where there are registers enough and turns enough for the steps that are left
 abbrev pub CodeJudges : Type 0
 CodeJudges =
-    (w : Setting) (p : Predicate) (rs : List MonType) → Stands w → RangesHold w.plan (sorts_held w.held) w.seen w.now w.names → PredicateRanged w.seen p
-    → PredicateFound w.plan w.now.scope (sorts_held w.held) p
+    (w : Setting) (p : Predicate) (rs : List MonType) → Stands w → RangesHold w.seen w.now w.names → PredicateRanged w.seen p
+    → PredicateFound w.plan w.now.scope (sorts_held w.held) p → w.target.steps ≤ w.turns
     → w.low ≤ length rs → length (judgement w.unit w.bound w.plan w.held p rs).used ≤ length w.regs
     → Judges w rs (judgement w.unit w.bound w.plan w.held p rs) (pred p w.now w.names w.target.steps)
 
--- these predicates take no step: the answer is the same for all
+-- the flag says whether a term has a value, and that is the number in the other register
+pub record IsValued (flag value : ℕ) (o : Option TermValue) (after : List Value) : Type 0 where
+  pub flag_is : slice_get after flag ≡ Some (Integer (number_of (is_some o)))
+  pub value_is : (v : TermValue) → o ≡ Some v → (z : ℤ) × (v ≡ Mathematical z) × (slice_get after value ≡ Some (Integer z))
+
+-- so does the code of each integer term that keeps its range; it takes no step
+abbrev pub CodeValues : Type 0
+CodeValues =
+    (w : Setting) (t : LogicTerm) (rs : List MonType) → Stands w → RangesHold w.seen w.now w.names → TermRanged w.seen t
+    → TermFound w.plan w.now.scope (sorts_held w.held) t → w.target.steps ≤ w.turns
+    → w.low ≤ length rs → length (valuation w.unit w.bound w.plan w.held t rs).used ≤ length w.regs
+    → Finishes w (valuation w.unit w.bound w.plan w.held t rs).stmts (length rs) w.target.steps
+    (IsValued (valuation w.unit w.bound w.plan w.held t rs).flag (valuation w.unit w.bound w.plan w.held t rs).value (term t w.now w.names))
+
+-- predicates without quantifiers take no step: their answer is the same for all
 abbrev pub TakesNoStep : Type 0
-TakesNoStep =
-    (ks : List Kept) (ns : Sorted) (p : Predicate) (s : State) (e : Environment) → PredicateFound ks s.scope ns p
-    → (says : Option Bool) × ((n : ℕ) → pred p s e n ≡ said says n)
+TakesNoStep = (p : Predicate) (s : State) (e : Environment) → IsQuiet p → (says : Option Bool) × ((n : ℕ) → pred p s e n ≡ said says n)

@@ -1,6 +1,7 @@
 -- Ours: a choice of code; what it has to do is ACSL 2.4.3, by the theorem of this crate.
 -- The code of what stands in registers: values that have names in annotations, and terms that are kept at labels.
-use Rattle.std.specs.Prelude.{ℕ, suc, pos, Bool, cond, nat_eq, List, [], ◌∷◌, Option, Some, None}
+use Rattle.std.specs.Prelude.{ℕ, suc, pos, Bool, false, cond, nat_eq, List, [], ◌∷◌, Option, Some, None}
+use Rattle.c_syntax.specs.Logic.{Binder}
 use Rattle.c_model.specs.PredicateTyping.{place_of_term}
 use Rattle.mon_syntax.specs.declared.tree.MonType.{MonType}
 use Rattle.mon_syntax.specs.declared.tree.MonType.TheVariants.{I32, Ptr}
@@ -47,6 +48,11 @@ Sorted = List (ℕ × Bool)
 abbrev pub sorts_held : List Held → Sorted
 sorts_held [] = []
 sorts_held (h ∷ hs) = (h.number, same_type h.kind Ptr) ∷ sorts_held hs
+
+-- binders are numbers, the innermost first
+abbrev pub sorts_within : List Binder → Sorted → Sorted
+sorts_within [] ns = ns
+sorts_within (b ∷ bs) ns = sorts_within bs ((b.place.offset, false) ∷ ns)
 
 abbrev pub sort_held : ℕ → Sorted → Option Bool
 sort_held x [] = None

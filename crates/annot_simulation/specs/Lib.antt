@@ -1,7 +1,9 @@
 pub mod Pieces
 pub mod Pointers
 pub mod Held
+pub mod Binders
 pub mod Code
+pub mod Opened
 pub mod Does
 pub mod Inside
 pub mod Validity

@@ -28,6 +28,7 @@ use Rattle.mon_syntax.specs.declared.tree.MonType.TheVariants.{I8, U8, I16, U16,
 use Rattle.mon_syntax.specs.Trees.{MonExpression, Register, Constant, Binary, Minus, Cast, Set, If, MonStatements, NoStatement, Then}
 use Rattle.term_guards.specs.Guards.{guard}
 use Rattle.c_effects.specs.Expressions.{before, one, set, in_type, unary, operator_of, register_type, value_type}
+pub use Rattle.quantifier_loops.specs.Tries.{guarded}
 
 -- ---- types of values
 
@@ -83,11 +84,6 @@ abbrev pub conjunction : Option MonExpression → Option MonExpression → Optio
 conjunction None b = b
 conjunction (Some a) None = Some a
 conjunction (Some a) (Some b) = Some (Binary And I32 a b)
-
--- the first statements where a flag is 1, and else the second ones
-abbrev pub guarded : Option MonExpression → MonStatements → MonStatements → MonStatements
-guarded None a b = a
-guarded (Some e) a b = one (If e a b)
 
 -- two parts, one after the other, and a value that is made of theirs
 abbrev pub two_code : Code → Code → MonExpression → Code

@@ -98,6 +98,7 @@ pub record Passed (w : Setting) (m from : ℕ) (a : MonStatements) (rs : List Mo
 -- after a passage of a label the registers of the plan hold what the new marks say
 abbrev pub SnapshotKeeps : Type 0
 SnapshotKeeps =
-    (w : Setting) (n m : ℕ) → StandsApart n m w → RangesHold [] [] [] w.now [] → (l : Option ℕ) (ks : List Kept) → AreKept w l ks → Ascend n ks m
+    (w : Setting) (n m : ℕ) → StandsApart n m w → RangesHold [] w.now [] → w.target.steps ≤ w.turns → (l : Option ℕ) (ks : List Kept) → AreKept w l ks
+    → Ascend n ks m
     → (marks : List Mark) (rs : List MonType) → w.low ≤ length rs → m ≤ length rs → length (behind_snapshot w.unit w.bound l rs ks) ≤ length w.regs
     → GiveTerms ks marks w.regs → Passed w m n (snapshot w.unit w.bound l rs ks) rs w.regs (GiveTerms ks (marked l w.now ∷ marks))

@@ -1,17 +1,19 @@
 //! What the code of predicates does. It has nothing to do itself.
 
 ghost use Rattle.annot_simulation.specs.Beside.{BoundedStatesKeepRanges, JudgedPredicatesAreFound, ResultsKeepRanges, SoundJudgementsKeepRanges};
-ghost use Rattle.annot_simulation.specs.Beside.{StandingKeepsRanges, StandingStands, TermsUnderLabelsAreFound, TypedPredicatesAreFound};
+ghost use Rattle.annot_simulation.specs.Beside.{StandingKeepsRanges, StandingStands, TermsUnderLabelsAreFound, TypedPredicatesAreFound, TypedTermsAreFound};
 ghost use Rattle.annot_simulation.specs.ContractValidity.{ChecksAreValid, SnapshotsAreValid};
 ghost use Rattle.annot_simulation.specs.ContractDoes.{ChecksFollow};
-ghost use Rattle.annot_simulation.specs.Does.{CodeJudges, TakesNoStep};
+ghost use Rattle.annot_simulation.specs.Does.{CodeJudges, CodeValues, TakesNoStep};
 ghost use Rattle.annot_simulation.specs.Plan.{EntriesAreFound, PlansAscend};
 ghost use Rattle.annot_simulation.specs.Snapshots.{SnapshotKeeps};
-ghost use Rattle.annot_simulation.specs.Validity.{CodeIsValid};
+ghost use Rattle.annot_simulation.specs.Validity.{CodeIsValid, ValuesAreValid};
 
-/// The code of a predicate judges it, whatever names of annotations stand for, and leaves the steps that it leaves: all of them.
+/// The code of a predicate judges it, whatever names of annotations stand for, and leaves the steps that it leaves: all of them where no quantifier stands
+/// in it. The code of an integer term leaves its value.
 pub fn code()
     ensures judges { CodeJudges }
+    ensures values { CodeValues }
     ensures still { TakesNoStep }
 {}
 
@@ -20,6 +22,7 @@ pub fn validity()
     ensures valid { CodeIsValid }
     ensures snapshots { SnapshotsAreValid }
     ensures checks { ChecksAreValid }
+    ensures values { ValuesAreValid }
 {}
 
 /// The code at a passage of a label keeps what its terms are there, and the code of checks does what the checks of a contract do.
@@ -45,6 +48,7 @@ pub fn beside()
     ensures results { ResultsKeepRanges }
     ensures judged { SoundJudgementsKeepRanges }
     ensures found { TypedPredicatesAreFound }
+    ensures terms { TypedTermsAreFound }
     ensures under { TermsUnderLabelsAreFound }
     ensures asked { JudgedPredicatesAreFound }
 {}
