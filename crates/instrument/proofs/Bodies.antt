@@ -1,6 +1,5 @@
 -- The body of a definition: how many registers there are, and that it does the same on both sides from its parameters on.
 use Rattle.std.proofs.Common.{◌≡◌, ℕ, suc, ◌+◌, ◌≤◌, pos, Bool, true, false, cond, List, [], ◌∷◌, ◌++◌, length, length-append, length-drop, drop, slice_get, Option, Some, None, refl, sym, ap, ◌∙◌, subst, arith}
-use Rattle.std.proofs.lemmas.List.{length-map}
 use Rattle.std.proofs.lemmas.Bool.{lt-ltb}
 use Rattle.c_syntax.specs.declared.place.Place.{Place}
 use Rattle.c_syntax.specs.declared.expression.Use.{Use}
@@ -12,7 +11,6 @@ use Rattle.c_syntax.specs.declared.types.CInt.TheVariants.{U64}
 use Rattle.c_syntax.specs.Layouts.{size_of}
 use Rattle.c_model.specs.Integers.{fits}
 use Rattle.c_model.specs.Memory.{Value, Points, Store}
-use Rattle.c_model.specs.State.{State}
 use Rattle.c_model.specs.Meaning.{text_at, Callee, Tables, tables_of, items_with, body_with, declared_in, is_definition, literal}
 use Rattle.c_model.specs.ExpressionTyping.{Sight, inner, with_object}
 use Rattle.c_model.specs.UnitTyping.{with_parameter, with_parameters}
@@ -20,7 +18,7 @@ use Rattle.c_model.specs.TypedTrees.{HasKnownSize, Calls, ItemsTyped, BodyTyped,
 use Rattle.c_model.specs.Formed.{declared_in_body, declared_in_items}
 use Rattle.c_model.specs.EffectPlaces.{ItemsPlaced}
 use Rattle.c_model.specs.ReadTree.{BodyRead}
-use Rattle.instrument.proofs.RangedTrees.{AreRangedAsserts}
+use Rattle.instrument.proofs.RangedTrees.{AreRangedAsserts, AreRangedClauses}
 use Rattle.c_model.specs.TypedAnnotations.{ItemsNoted}
 use Rattle.instrument.proofs.DeclarationCode.{next-entered}
 use Rattle.instrument.proofs.Parameters.{AreScalars}
@@ -31,7 +29,7 @@ use Rattle.mon_syntax.specs.Meaning as monitored
 use Rattle.mon_syntax.specs.BlockMemory.{over_blocks}
 use Rattle.mon_syntax.specs.LiveBlocks.{LiveBlock, live_in}
 use Rattle.instrument.specs.Limits.{HaveNumbers, BodyHasNumbers}
-use Rattle.track_scopes.specs.Blocks.{entered, with_born}
+use Rattle.track_scopes.specs.Blocks.{entered}
 use Rattle.instrument.specs.Translation.{all_kinds, at_leave, at_start, behind_own, behind_pre, body_part, contract_types, first_flag, first_own, first_pointer, held_of, outermost}
 use Rattle.instrument.specs.Translation.{own_types, plan_of, pointers, result_register, with_variables, value_types, after_body, after_items, arguments_from, registers_from, items}
 use Rattle.instrument.specs.Translation as target
@@ -42,7 +40,7 @@ use Rattle.annot_simulation.proofs.Plans.{plans_ascend}
 use Rattle.c_model.specs.AnnotationTyping.{in_body}
 use Rattle.instrument.proofs.Blocks.{Meets}
 use Rattle.instrument.proofs.Passages.{ItemsKept, snapshot_grows, entry_grows, leave_grows}
-use Rattle.c_simulation.specs.Standing.{Target, Setting, AreOctets, Knows, runs}
+use Rattle.c_simulation.specs.Standing.{Setting, AreOctets, Knows, runs}
 use Rattle.c_simulation.specs.Following.{Follows}
 use Rattle.instrument.proofs.Births.{with_numbers, behind_births}
 use Rattle.instrument.proofs.Declared.{AreBorn, ItemsCanDeclare, items_grow, statement_grows}
@@ -160,7 +158,7 @@ pub record HasBody (p : TranslationUnit) (f : Function) (part : Part p f) : Type
   pub at : Place
   pub items : BlockItems
   pub is : f.body ≡ Some (Block at items)
-  pub formed : ItemsPlaced AreRangedAsserts items
+  pub formed : ItemsPlaced AreRangedAsserts AreRangedClauses items
   pub typed : ItemsTyped (with_parameters (inner part.sight) f.params) (around_body f.result) items
   pub noted : ItemsNoted (in_body (with_parameters (inner part.sight) f.params)) items
   pub letters : HaveNumbers items
@@ -171,21 +169,21 @@ has_body p f part e = by f.body refl
     by : (o : Option Statement) → f.body ≡ o → HasBody p f part
     by None g = absurd cc
     by (Some (Block at items)) g =
-        let formed : BodyRead AreRangedAsserts (Some (Block at items)) = subst (BodyRead AreRangedAsserts) g part.read.body in
+        let formed : BodyRead AreRangedAsserts AreRangedClauses (Some (Block at items)) = subst (BodyRead AreRangedAsserts AreRangedClauses) g part.read.body in
         let typed : BodyTyped (with_parameters (inner part.sight) f.params) f.result (Some (Block at items)) = subst (BodyTyped (with_parameters (inner part.sight) f.params) f.result) g part.typed.body in
         let noted : BodyNoted (in_body (with_parameters (inner part.sight) f.params)) (Some (Block at items)) = subst (BodyNoted (in_body (with_parameters (inner part.sight) f.params))) g part.noted in
         let numbers : BodyHasNumbers (Some (Block at items)) = subst BodyHasNumbers g (part.letters e) in
         record { at = at; items = items; is = g; formed = formed.0; typed = typed; noted = noted; letters = numbers }
-    by (Some (Empty at)) g = absurd (subst (BodyRead AreRangedAsserts) g part.read.body)
-    by (Some (Eval at x)) g = absurd (subst (BodyRead AreRangedAsserts) g part.read.body)
-    by (Some (If at x a b)) g = absurd (subst (BodyRead AreRangedAsserts) g part.read.body)
-    by (Some (While at annots x a)) g = absurd (subst (BodyRead AreRangedAsserts) g part.read.body)
-    by (Some (Do at a x)) g = absurd (subst (BodyRead AreRangedAsserts) g part.read.body)
-    by (Some (For at annots first x step a)) g = absurd (subst (BodyRead AreRangedAsserts) g part.read.body)
-    by (Some (Break at)) g = absurd (subst (BodyRead AreRangedAsserts) g part.read.body)
-    by (Some (Continue at)) g = absurd (subst (BodyRead AreRangedAsserts) g part.read.body)
-    by (Some (Return at x)) g = absurd (subst (BodyRead AreRangedAsserts) g part.read.body)
-    by (Some _) g = absurd (subst (BodyRead AreRangedAsserts) g part.read.body)
+    by (Some (Empty at)) g = absurd (subst (BodyRead AreRangedAsserts AreRangedClauses) g part.read.body)
+    by (Some (Eval at x)) g = absurd (subst (BodyRead AreRangedAsserts AreRangedClauses) g part.read.body)
+    by (Some (If at x a b)) g = absurd (subst (BodyRead AreRangedAsserts AreRangedClauses) g part.read.body)
+    by (Some (While at annots x a)) g = absurd (subst (BodyRead AreRangedAsserts AreRangedClauses) g part.read.body)
+    by (Some (Do at a x)) g = absurd (subst (BodyRead AreRangedAsserts AreRangedClauses) g part.read.body)
+    by (Some (For at annots first x step a)) g = absurd (subst (BodyRead AreRangedAsserts AreRangedClauses) g part.read.body)
+    by (Some (Break at)) g = absurd (subst (BodyRead AreRangedAsserts AreRangedClauses) g part.read.body)
+    by (Some (Continue at)) g = absurd (subst (BodyRead AreRangedAsserts AreRangedClauses) g part.read.body)
+    by (Some (Return at x)) g = absurd (subst (BodyRead AreRangedAsserts AreRangedClauses) g part.read.body)
+    by (Some _) g = absurd (subst (BodyRead AreRangedAsserts AreRangedClauses) g part.read.body)
 
 -- literals have their pointers, and are bytes
 pub record LiteralsStand (p : TranslationUnit) (globals : List Value) : Type 0 where

@@ -36,7 +36,6 @@ use Rattle.c_simulation.proofs.Calls.{Called, EndsRun, HaveAll, takes, DoesCall,
 use Rattle.instrument.proofs.Functions.{of_function, setting, call_follows}
 use Rattle.instrument.proofs.CheckedCalls.{CallLaws, call_gives}
 use Rattle.instrument.proofs.Passages.{ItemsKept}
-use Rattle.mon_syntax.specs.declared.tree.MonType.{MonType}
 use Rattle.c_model.specs.UnitTyping.{with_parameters}
 use Rattle.c_model.specs.Library.{is_library_name}
 use Rattle.c_model.specs.Formats.{types_of as directives}

@@ -1,11 +1,11 @@
 -- A call of a function with a contract gives the same on both sides, where the code of its checks and its body do the same.
-use Rattle.std.proofs.Common.{◌≡◌, ℕ, suc, ◌+◌, ◌<◌, ◌≤◌, Bool, false, List, [], ◌++◌, length, length-append, Option, Some, None, refl, sym, ap, ◌∙◌, subst, arith}
+use Rattle.std.proofs.Common.{◌≡◌, ℕ, suc, ◌+◌, ◌≤◌, Bool, false, List, [], ◌++◌, length, length-append, Option, Some, None, refl, sym, ap, ◌∙◌, subst, arith}
 use Rattle.std.proofs.lemmas.List.{length-map}
 use Rattle.c_syntax.specs.Programs.{FunctionContract, Function, TranslationUnit}
 use Rattle.c_model.specs.ContractChecks.{all_checked, all_hold, entry_checks, leave_checks, result_is}
 use Rattle.c_model.specs.Meaning.{Callee, tables_of, body_with, returned_by}
 use Rattle.c_model.specs.Memory.{Value, Store}
-use Rattle.c_model.specs.State.{State, Outcome, Evaluation, answered}
+use Rattle.c_model.specs.State.{State, answered}
 use Rattle.mon_syntax.specs.declared.tree.MonType.{MonType}
 use Rattle.mon_syntax.specs.Meaning.{Result, then_do, at_label, at_return}
 use Rattle.mon_syntax.specs.Meaning as monitored
@@ -14,13 +14,11 @@ use Rattle.mon_syntax.specs.LiveBlocks.{LiveBlock, live_in}
 use Rattle.mon_syntax.specs.Trees.{MonStatements, NoStatement}
 use Rattle.c_effects.specs.Expressions.{before}
 use Rattle.c_effects.proofs.Sequences.{before_none}
-use Rattle.track_scopes.specs.Blocks.{deaths}
 use Rattle.track_scopes.proofs.Deaths.{deaths_end}
 use Rattle.annot_simulation.specs.ContractCode.{entry_code, leave_code}
 use Rattle.annot_simulation.specs.Plan.{planned, kept_types}
 use Rattle.instrument.specs.Translation.{at_leave, behind_own, behind_pre, body_code, body_part, contract_types, first_flag, first_own, held_of, own_types, plan_of, pointers, at_start, result_register, value_types}
 use Rattle.instrument.specs.Translation as target
-use Rattle.c_simulation.specs.Keeping.{StandBelow}
 use Rattle.c_simulation.specs.Labels.{leave_label}
 use Rattle.c_simulation.specs.SameRegisters.{Stays}
 use Rattle.c_simulation.specs.Standing.{Target, Setting, runs, Keeps, Beside}

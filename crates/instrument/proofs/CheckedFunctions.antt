@@ -1,9 +1,9 @@
 -- What a call of a function of the program needs (`CallLaws`) holds from what its text tells: the terms that it keeps at labels are in sight there and keep
 -- their ranges, and so do the clauses of its contract.
-use Rattle.std.proofs.Common.{◌≡◌, ℕ, ◌+◌, ◌≤◌, Bool, nat_eq, List, [], ◌++◌, length, length-append, Option, Some, None, refl, sym, ap, ◌∙◌, subst, arith}
+use Rattle.std.proofs.Common.{◌≡◌, ℕ, ◌+◌, ◌≤◌, nat_eq, List, [], ◌++◌, length, Some, None, refl, sym, ap, subst, arith}
 use Rattle.std.proofs.lemmas.List.{length-map}
 use Rattle.c_syntax.specs.Programs.{FunctionContract, Function, TranslationUnit}
-use Rattle.c_model.specs.ContractChecks.{all_hold, entry_checks, leave_checks, result_is}
+use Rattle.c_model.specs.ContractChecks.{entry_checks, leave_checks, result_is}
 use Rattle.c_model.specs.ExpressionTyping.{inner}
 use Rattle.c_model.specs.Meaning.{Callee}
 use Rattle.c_model.specs.Memory.{Value}
@@ -66,11 +66,11 @@ module _ (p : TranslationUnit) (globals : List Value) (main index : ℕ) (f : Fu
 
   -- where the label `Pre` is passed
   pub pre_stands : KeptAt (plan_of f) (AtBeginning p f) None → PreFollows p globals main index f call calls n
-  pre_stands kept store active blocks regs s t m =
+  pre_stands kept store active blocks regs s t m le =
       let w = setting p globals main index f call calls n store active in
       let ordered = ascend_more (plan_of f) (first_own f) (first_own f + length (kept_types (planned f))) (behind_own f) (plan_fits f) (plans_ascend (first_own f) (planned f)) in
       label_passes w n ordered (at_body (length store) blocks f.result) (AtBeginning p f) low (at_start p mine f).bound None kept (at_start p mine f).kinds (omega (arith, start_registers p mine f))
-      (omega (arith, registers_long p globals main index f call calls n, pre_fits p mine f f.contract)) regs s t m.names m.standing m.beside
+      (omega (arith, registers_long p globals main index f call calls n, pre_fits p mine f f.contract)) regs s t le m.names m.standing m.beside
 
   module _ (c : FunctionContract) (is : f.contract ≡ Some c) (clauses : ClausesStand p f) where
     abbrev h : ℕ
@@ -95,7 +95,7 @@ module _ (p : TranslationUnit) (globals : List Value) (main index : ℕ) (f : Fu
     entry_stands s blocks regs from t m le =
         let asking : code.Setting = record (judging (w s) n low (at_start p mine f).bound [] [] [] from t regs) { plan = [] } in
         entry_do (w s) n (at_body (length s.store) blocks f.result) low (at_start p mine f).bound c h last (omega arith) refl fits (behind_pre p mine f).kinds (omega (arith, start_registers p mine f, pre_grows p mine f))
-        (omega (arith, all_fit, entered_fit)) regs from t m.standing m.beside
+        (omega (arith, all_fit, entered_fit)) regs from t le m.standing m.beside
         (subst (λ k. AreGood asking c.behaviors h k (entry_checks c)) (sym (length-map c.behaviors _)) (clauses.entry c is asking refl refl refl refl m.names))
 
     pub leave_stands : LeaveChecks p globals main index f call calls n c is
@@ -104,7 +104,7 @@ module _ (p : TranslationUnit) (globals : List Value) (main index : ℕ) (f : Fu
         let m2 = meets_after (w s) here (outermost None (pointers p mine f)) low (at_start p mine f).bound (with_numbers f.params names) regs after from to t0 t o same keeps passes beside m in
         let judged : code.Setting = judging (w s) n low (at_start p mine f).bound (result_is (value_of z)) (held_of f) (seen_in f.result) to t after in
         leave_do (w s) n here low (at_start p mine f).bound f c (result_register f) h last (plan_stands (planned f) (first_own f) h (omega arith)) (omega arith) (omega arith) refl fits (at_leave p mine f c)
-        (omega (arith, start_registers p mine f, entered_grows p mine f c, body_grows p (plan_of f) f.body (target.at_body p mine f c))) all_fit z given after holds to t m2.standing m2.beside hs many flagged
+        (omega (arith, start_registers p mine f, entered_grows p mine f c, body_grows p (plan_of f) f.body (target.at_body p mine f c))) all_fit z given after holds to t (omega (arith, le, passes.spent)) m2.standing m2.beside hs many flagged
         (subst (λ k. AreGood judged c.behaviors h k (leave_checks c)) (omega (arith, many)) (clauses.leave c is judged refl refl refl m2.names))
 
   -- all that a call needs, where the function's registers begin with those that are its own

@@ -1,5 +1,5 @@
 -- The checks of a contract: their code does what they do, beside a state of the source, at the beginning of a call and at its end.
-use Rattle.std.proofs.Common.{◌≡◌, ◌⊎◌, inl, inr, ℕ, suc, ◌+◌, ◌<◌, ◌≤◌, pos, Bool, true, false, cond, nat_eq, List, [], ◌∷◌, ◌++◌, length, length-set, Option, Some, None, slice_get, slice_set, refl, sym, ap, ◌∙◌, subst, arith}
+use Rattle.std.proofs.Common.{◌≡◌, ◌⊎◌, inl, inr, ℕ, suc, ◌+◌, ◌<◌, ◌≤◌, pos, Bool, true, false, cond, nat_eq, List, [], ◌∷◌, length, length-set, Option, Some, None, slice_get, slice_set, refl, sym, ap, ◌∙◌, subst, arith}
 use Rattle.std.proofs.lemmas.List.{length-map}
 use Rattle.std.proofs.lemmas.Int.{ints}
 use Rattle.std.proofs.lemmas.Bool.{eqb-true}
@@ -9,14 +9,13 @@ use Rattle.c_syntax.specs.declared.types.CInt.TheVariants.{I8, U8, I16, U16, I32
 use Rattle.c_syntax.specs.Ctypes.{PlainType, Int, Array, Struct, Void, StructTag, EnumTag}
 use Rattle.c_syntax.specs.Ctypes as ctype
 use Rattle.c_syntax.specs.Programs.{NamedBehavior, FunctionContract, Function}
-use Rattle.c_model.specs.ContractChecks.{Check, all_checked, all_hold, entry_checks, leave_checks, result_is, result_number}
-use Rattle.c_model.specs.Logic.{Environment, Mathematical, look, meant}
+use Rattle.c_model.specs.ContractChecks.{all_checked, all_hold, entry_checks, leave_checks, result_is, result_number}
+use Rattle.c_model.specs.Logic.{Environment, look, meant}
 use Rattle.c_model.specs.Memory.{Value, Integer, Pointer, Null, Into}
-use Rattle.c_model.specs.PredicateTyping.{place_of_term}
 use Rattle.c_model.specs.Ranges.{LiesIn}
 use Rattle.c_model.specs.SoundStates.{IsNear}
-use Rattle.c_model.specs.State.{State, Mark, Over, Outcome, Normal, Stop}
-use Rattle.c_model.specs.TermRanges.{Seen, offset_range, range_seen}
+use Rattle.c_model.specs.State.{State, Over, Outcome, Normal, Stop}
+use Rattle.c_model.specs.TermRanges.{offset_range, range_seen}
 use Rattle.c_model.proofs.Blocks.{slice_get-slice_set_other}
 use Rattle.mon_syntax.specs.declared.tree.MonType.{MonType}
 use Rattle.mon_syntax.specs.declared.tree.MonType.TheVariants as mon_type
@@ -25,29 +24,25 @@ use Rattle.mon_syntax.specs.Registers.{Bindings}
 use Rattle.mon_syntax.specs.Meaning.{Done, Next, then_do, at_next, exec_all}
 use Rattle.mon_syntax.specs.BlockMemory.{over_blocks}
 use Rattle.mon_syntax.specs.Trees.{MonStatements}
-use Rattle.c_simulation.specs.Keeping.{Kept, GivesTerm, kept_value, registers_of, GiveTerms, StandBelow}
+use Rattle.c_simulation.specs.Keeping.{StandBelow}
 use Rattle.c_simulation.specs.SameRegisters.{Stays}
-use Rattle.c_simulation.specs.Standing.{Target, Did, Setting, runs, Keeps, Bounded, AreBounded, Here, IsSmall, Standing, Beside, Anchored}
+use Rattle.c_simulation.specs.Standing.{Target, Setting, runs, Bounded, AreBounded, Here, IsSmall, Standing, Beside}
 use Rattle.c_simulation.specs.Following.{IsResult, HoldsResult}
 use Rattle.c_simulation.specs.Calls.{value_of}
 use Rattle.c_effects.specs.Expressions.{register_type}
 use Rattle.mem_preds.specs.Reads as reads
 use Rattle.interval_infer.specs.Judged.{seen_in}
-use Rattle.interval_infer.proofs.Sound.{ranges_are_within_128}
-use Rattle.interval_infer.proofs.Terms.{terms_lie_in_ranges}
 use Rattle.instrument.specs.Translation.{result_held, result_of}
 use Rattle.c_simulation.proofs.Anchors.{pointer_has}
 use Rattle.c_simulation.proofs.Following.{anchored_stays}
 use Rattle.c_simulation.proofs.Registers.{get-set_same, same_all}
 use Rattle.c_simulation.proofs.Results.{before_is, writes_none}
 use Rattle.annot_simulation.specs.Beside.{judging}
-use Rattle.annot_simulation.specs.ContractCode.{all_flagged, checks_code, behind_checks, entry_code, behind_entry, leave_code, behind_leave}
+use Rattle.annot_simulation.specs.ContractCode.{all_flagged, checks_code, entry_code, behind_entry, leave_code, behind_leave}
 use Rattle.annot_simulation.specs.ContractDoes.{Flagged, Checked, Goes, Breaks, IsHeldApart, StandsFor, AreGood, left_with}
-use Rattle.annot_simulation.specs.ContractDoes as checks
 use Rattle.annot_simulation.specs.Does as code
 use Rattle.annot_simulation.specs.Does.{HasKept, IsSorted, RangesHold}
-use Rattle.annot_simulation.specs.Held.{Held, Sorted, held_by, kept_at, sorts_held}
-use Rattle.annot_simulation.specs.Snapshots.{StandsApart}
+use Rattle.annot_simulation.specs.Held.{Held, held_by}
 use Rattle.annot_simulation.proofs.Beside.{kept_found, ranges_hold, results_keep_ranges, state_fits}
 use Rattle.annot_simulation.proofs.ContractChecked.{checks_follow_all}
 use Rattle.annot_simulation.proofs.SoundStores.{bounded_sound}
@@ -113,7 +108,7 @@ module _ (w : Setting) (n : ℕ) (low : ℕ) (bound : Bindings) (h m : ℕ) (beh
 -- ---- at the beginning
 
 module _ (w : Setting) (n : ℕ) (here : Here) (low : ℕ) (bound : Bindings) (c : FunctionContract) (h m : ℕ) (behind : w.plan_from ≤ h) (flags : h + length c.behaviors ≡ m) (own : m ≤ w.plan_to) (rs : List MonType) (in_rs : low ≤ length rs)
-    (room : length (behind_entry w.unit bound h rs c) ≤ w.registers) (regs : List Value) (from : State) (t : Target) (st : Standing w here low bound regs from) (b : Beside w from.store from t) where
+    (room : length (behind_entry w.unit bound h rs c) ≤ w.registers) (regs : List Value) (from : State) (t : Target) (few : from.steps ≤ n) (st : Standing w here low bound regs from) (b : Beside w from.store from t) where
   -- no name and no label stands there
   abbrev pub asking : code.Setting
   asking = record (judging w n low bound [] [] [] from t regs) { plan = [] }
@@ -128,7 +123,7 @@ module _ (w : Setting) (n : ℕ) (here : Here) (low : ℕ) (bound : Bindings) (c
     };
     held = λ x y e. absurd cc;
     keeps = λ at k e. absurd cc;
-    ranges = λ k. ranges_hold [] [] (left_with k from) st.bounded st.kept.keeps.past;
+    ranges = λ k. ranges_hold (left_with k from) st.bounded st.kept.keeps.past;
   }
 
   all_long : length (all_hold c.behaviors) ≡ length c.behaviors
@@ -144,7 +139,7 @@ module _ (w : Setting) (n : ℕ) (here : Here) (low : ℕ) (bound : Bindings) (c
       let done : runs w n t (entry_code w.unit bound h rs c) regs ≡ runs w n t asks r.after =
       before_is w.globals raise asks w.calls n regs t ∙ ap (λ q. then_do q (at_next (exec_all over_blocks w.globals asks w.calls n))) r.run ∙ writes_none (runs w n t asks r.after) in
       let law : Checked asking from.steps h (all_hold c.behaviors) (all_checked c.behaviors [] (entry_checks c) (all_hold c.behaviors) from) (runs w n (record t { steps = from.steps }) asks r.after) rs r.after =
-      checks_follow_all asking h m stands c.behaviors h (omega arith) (entry_checks c) from.steps (all_hold c.behaviors) all_long good (omega (arith, all_long, flags)) rs in_rs (omega (arith, all_long, flags, own, st.kept.below, in_rs)) r.after
+      checks_follow_all asking h m stands c.behaviors h (omega arith) (entry_checks c) from.steps few (all_hold c.behaviors) all_long good (omega (arith, all_long, flags)) rs in_rs (omega (arith, all_long, flags, own, st.kept.below, in_rs)) r.after
       (omega (arith, room, r.long, st.registers)) r.flagged apart in
       subst (λ q. ChecksDo h m low regs from t (all_checked c.behaviors [] (entry_checks c) (all_hold c.behaviors) from) q) (sym done)
       (checked_do w n low bound h m behind own st.kept.below asking regs r.after from t asks rs (all_hold c.behaviors) (omega (arith, all_long, flags)) in_rs apart
@@ -158,12 +153,8 @@ module _ (w : Setting) (n : ℕ) (here : Here) (low : ℕ) (bound : Bindings) (c
 -- ---- at the end
 
 -- terms that no name in sight bounds have values of their ranges, whatever names stand for
-unseen_ranges : (ks : List Kept) (ns : Sorted) (s : State) (e : Environment) → Bounded s.store → AreBounded s.marks → RangesHold ks ns [] s e
-unseen_ranges ks ns s e bounded past = record {
-  lies = λ t found ranged z means.
-      terms_lie_in_ranges [] t s e (Mathematical z) (state_fits s bounded past) (record { within = λ x r f. absurd cc; lies = λ l u x r w at f g. absurd cc }) ranged means;
-  within = λ t ranged. ranges_are_within_128 [] t tt ranged;
-}
+unseen_ranges : (s : State) (e : Environment) → Bounded s.store → AreBounded s.marks → RangesHold [] s e
+unseen_ranges s e bounded past = record { state = state_fits s bounded past; names = record { within = λ x r f. absurd cc; lies = λ l u x r w at f g. absurd cc } }
 
 -- ---- what is given
 
@@ -195,20 +186,20 @@ starts_at u q e = let same : offset_range ≡ q = cc in subst (λ r. LiesIn r (p
 
 -- it lies in the range of its type
 module _ (t : PlainType) (z : Option Value) where
-  result_ranges : (ks : List Kept) (ns : Sorted) (s : State) → IsResult t z → Bounded s.store → AreBounded s.marks → RangesHold ks ns (seen_in t) s (result_is (value_of z))
-  result_ranges ks ns s i bounded past = by t z i
+  result_ranges : (s : State) → IsResult t z → Bounded s.store → AreBounded s.marks → RangesHold (seen_in t) s (result_is (value_of z))
+  result_ranges s i bounded past = by t z i
     where
-      by : (t : PlainType) (z : Option Value) → IsResult t z → RangesHold ks ns (seen_in t) s (result_is (value_of z))
+      by : (t : PlainType) (z : Option Value) → IsResult t z → RangesHold (seen_in t) s (result_is (value_of z))
       by (Int k) None i = absurd i
-      by (Int k) (Some v) i = results_keep_ranges ks ns s (Int k) v bounded past i
+      by (Int k) (Some v) i = results_keep_ranges s (Int k) v bounded past i
       by (ctype.Ptr u) None i = absurd i
-      by (ctype.Ptr u) (Some v) i = results_keep_ranges ks ns s (ctype.Ptr u) v bounded past (i.0, i.1, small_near i.0 i.2)
-      by (Array u n) z i = unseen_ranges ks ns s (result_is (value_of z)) bounded past
-      by (Struct n) z i = unseen_ranges ks ns s (result_is (value_of z)) bounded past
-      by Void z i = unseen_ranges ks ns s (result_is (value_of z)) bounded past
-      by (ctype.Named x) z i = unseen_ranges ks ns s (result_is (value_of z)) bounded past
-      by (StructTag x tag) z i = unseen_ranges ks ns s (result_is (value_of z)) bounded past
-      by (EnumTag x at) z i = unseen_ranges ks ns s (result_is (value_of z)) bounded past
+      by (ctype.Ptr u) (Some v) i = results_keep_ranges s (ctype.Ptr u) v bounded past (i.0, i.1, small_near i.0 i.2)
+      by (Array u n) z i = unseen_ranges s (result_is (value_of z)) bounded past
+      by (Struct n) z i = unseen_ranges s (result_is (value_of z)) bounded past
+      by Void z i = unseen_ranges s (result_is (value_of z)) bounded past
+      by (ctype.Named x) z i = unseen_ranges s (result_is (value_of z)) bounded past
+      by (StructTag x tag) z i = unseen_ranges s (result_is (value_of z)) bounded past
+      by (EnumTag x at) z i = unseen_ranges s (result_is (value_of z)) bounded past
 
 -- `\result` is held in its register, whatever the flags hold
 module _ (r h m : ℕ) (lt : r < h) where
@@ -235,7 +226,7 @@ module _ (r h m : ℕ) (lt : r < h) where
 
 module _ (w : Setting) (n : ℕ) (here : Here) (low : ℕ) (bound : Bindings) (f : Function) (c : FunctionContract) (r h m : ℕ) (planned : StandBelow h w.plan) (lt : r < h) (behind : w.plan_from ≤ h) (flags : h + length c.behaviors ≡ m)
     (own : m ≤ w.plan_to) (rs : List MonType) (in_rs : low ≤ length rs) (room : length (behind_leave w.unit bound w.plan (result_held r (result_of f.result)) h rs c) ≤ w.registers)
-    (z : Option Value) (given : IsResult f.result z) (regs : List Value) (holds : HoldsResult (Some r) z regs) (from : State) (t : Target) (st : Standing w here low bound regs from) (b : Beside w from.store from t) where
+    (z : Option Value) (given : IsResult f.result z) (regs : List Value) (holds : HoldsResult (Some r) z regs) (from : State) (t : Target) (few : from.steps ≤ n) (st : Standing w here low bound regs from) (b : Beside w from.store from t) where
   abbrev held : List Held
   held = result_held r (result_of f.result)
 
@@ -282,7 +273,7 @@ module _ (w : Setting) (n : ℕ) (here : Here) (low : ℕ) (bound : Bindings) (f
     };
     held = is_held;
     keeps = λ at k e. let found = kept_found at h w.plan k from.marks regs e planned st.kept.keeps.terms in (record { below = omega (arith, found.0, below); gives = found.1 }, inl found.0);
-    ranges = λ k. result_ranges f.result z w.plan (sorts_held held) (left_with k from) given st.bounded st.kept.keeps.past;
+    ranges = λ k. result_ranges f.result z (left_with k from) given st.bounded st.kept.keeps.past;
   }
 
   pub leave_do : (hs : List Bool) → h + length hs ≡ m → Flagged h hs regs → AreGood judged c.behaviors h (length hs) (leave_checks c)
@@ -290,7 +281,7 @@ module _ (w : Setting) (n : ℕ) (here : Here) (low : ℕ) (bound : Bindings) (f
   leave_do hs long flagged good =
       let code = leave_code w.unit bound w.plan held h rs c in
       let law : Checked judged from.steps h hs (all_checked c.behaviors (result_is v) (leave_checks c) hs from) (runs w n (record t { steps = from.steps }) code regs) rs regs =
-      checks_follow_all judged h m stands_then c.behaviors h (omega arith) (leave_checks c) from.steps hs (omega (arith, long, flags)) good (omega (arith, long)) rs in_rs (omega (arith, long, own, st.kept.below, in_rs)) regs
+      checks_follow_all judged h m stands_then c.behaviors h (omega arith) (leave_checks c) from.steps few hs (omega (arith, long, flags)) good (omega (arith, long)) rs in_rs (omega (arith, long, own, st.kept.below, in_rs)) regs
       (omega (arith, room, st.registers)) flagged (stays_none h m low regs) in
       checked_do w n low bound h m behind own st.kept.below judged regs regs from t code rs hs long in_rs (stays_none h m low regs) (all_checked c.behaviors (result_is v) (leave_checks c) hs from) refl refl
       (subst (λ i. Checked judged from.steps h hs (all_checked c.behaviors (result_is v) (leave_checks c) hs from) (runs w n (record t { steps = i }) code regs) rs regs) (sym b.steps) law)

@@ -1,14 +1,13 @@
 -- A call of a function with a contract, from where its parameters live and the label `Pre` was passed: what the contract asks at the beginning, the body, what
 -- it asks at the end, the deaths of the parameters, and what the call gives.
-use Rattle.std.proofs.Common.{◌≡◌, ◌⊎◌, inl, inr, ℕ, suc, ◌+◌, ◌<◌, ◌≤◌, Bool, true, false, List, [], ◌∷◌, ◌++◌, length, append_assoc, Option, Some, None, slice_get, refl, sym, ap, ◌∙◌, subst, arith}
+use Rattle.std.proofs.Common.{◌≡◌, ◌⊎◌, inl, inr, ℕ, suc, ◌+◌, ◌<◌, ◌≤◌, Bool, List, [], ◌∷◌, ◌++◌, length, append_assoc, Option, Some, None, slice_get, refl, sym, ap, ◌∙◌, subst, arith}
 use Rattle.std.proofs.lemmas.List.{append-nil}
 use Rattle.c_syntax.specs.declared.place.Place.{Place}
 use Rattle.c_syntax.specs.Ctypes.{PlainType, Void, Int, Ptr, Array, Struct, Named, StructTag, EnumTag}
 use Rattle.c_syntax.specs.Layouts.{Scalar, scalar_of}
 use Rattle.c_syntax.specs.Programs.{FunctionContract, Function}
 use Rattle.c_model.specs.ContractChecks.{all_checked, all_hold, entry_checks, leave_checks, result_is, entry, ending}
-use Rattle.c_model.specs.Integers.{truth}
-use Rattle.c_model.specs.Memory.{Value, Integer, NoValue, kill_from}
+use Rattle.c_model.specs.Memory.{Value, NoValue, kill_from}
 use Rattle.c_model.specs.Meaning.{returned_by, at_close}
 use Rattle.c_model.specs.MonitoredRuns.{machine_end}
 use Rattle.c_model.specs.MonitoredRuns as machine
@@ -28,12 +27,12 @@ use Rattle.track_scopes.specs.Lives as lives
 use Rattle.track_scopes.specs.Lives.{AreFrom, AreBefore, with_store}
 pub use Rattle.annot_simulation.specs.ContractDoes.{Flagged}
 use Rattle.instrument.specs.Translation.{Spot, outermost, result_of, last_return}
-use Rattle.c_simulation.specs.Keeping.{Kept, registers_of, StandBelow, StandsBehind}
+use Rattle.c_simulation.specs.Keeping.{Kept, StandBelow}
 use Rattle.c_simulation.specs.Labels.{leave_label}
-use Rattle.c_simulation.specs.SameRegisters.{Same, Stays}
+use Rattle.c_simulation.specs.SameRegisters.{Stays}
 use Rattle.c_simulation.specs.Standing.{Target, Did, Setting, runs, Keeps, Here, Beside, IsAnchored, InRegister, AtGlobal, Anchored}
 use Rattle.c_simulation.specs.Following.{Later, Passes, IsResult, IsResultOf, HoldsResult, Follows, GoesOn, Breaks, Continues, IsLeft, IsOver, IsUndefined, written}
-use Rattle.c_simulation.proofs.Results.{writes_none, written_writes, written_then, before_is, one_is}
+use Rattle.c_simulation.proofs.Results.{writes_none, written_then, before_is, one_is}
 use Rattle.c_simulation.proofs.Registers.{same_all, keeps_same, stays_same}
 use Rattle.c_simulation.proofs.Following.{later_same, passes_later, passes_trans}
 use Rattle.c_simulation.proofs.Calls.{Even, Called, EndsRun, HasNoMeaning, value_of}

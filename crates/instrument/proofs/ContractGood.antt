@@ -3,7 +3,7 @@ use Rattle.std.proofs.Common.{◌≡◌, ◌⊎◌, inl, inr, ℕ, suc, ◌+◌,
 use Rattle.c_syntax.specs.declared.place.Place.{Place}
 use Rattle.c_syntax.specs.declared.annotation.Kind.{Kind}
 use Rattle.c_syntax.specs.declared.annotation.Kind.TheVariants as kind
-use Rattle.c_syntax.specs.Logic.{ClauseBody, Raw, Holds, Behaviors, Predicate, Annotation}
+use Rattle.c_syntax.specs.Logic.{ClauseBody, LogicTerm, Raw, Holds, Behaviors, Predicate, Annotation}
 use Rattle.c_syntax.specs.Logic as logic
 use Rattle.c_syntax.specs.Programs.{NamedBehavior, FunctionContract, Function, TranslationUnit}
 use Rattle.c_model.specs.AnnotationSights.{AnnotationSight, AtEnd}
@@ -13,7 +13,7 @@ use Rattle.c_model.specs.ContractTyping.{sight_of_clause, names_of_behaviors, na
 use Rattle.c_model.specs.ExpressionTyping.{Sight, is_among}
 use Rattle.c_model.specs.FormedContracts.{AreClausesOf, IsCoverKind, NamesBehaviors}
 use Rattle.c_model.specs.TermRanges.{Seen, PredicateRanged}
-use Rattle.c_model.specs.TypedAnnotations.{ClausesTyped, BehaviorsTyped, AreAmong, CoversTyped, ContractStands}
+use Rattle.c_model.specs.TypedAnnotations.{ClausesTyped, BehaviorsTyped, AreAmong, CoversTyped, ContractStands, IsSaidBy}
 use Rattle.c_model.specs.TypedPredicates.{ClauseTyped, PredicateTyped}
 use Rattle.c_model.specs.Unranged.{ClauseRanged, AnnotationsRanged}
 use Rattle.c_model.specs.UnrangedPrograms.{BehaviorsRanged}
@@ -26,6 +26,7 @@ use Rattle.annot_simulation.specs.Does.{Planned, PredicateFound}
 use Rattle.annot_simulation.specs.Held.{sorts_held}
 use Rattle.annot_simulation.specs.Plan.{Entry, IsIn, in_annotations, in_behaviors, in_clause, in_contract, in_predicate}
 use Rattle.annot_simulation.proofs.Found.{typed_found}
+use Rattle.instrument.proofs.Writable.{typed_apart}
 use Rattle.annot_simulation.proofs.TypedEntries.{sight_of, predicate_stands, predicate_alone}
 use Rattle.interval_infer.specs.Judged.{seen_in}
 use Rattle.instrument.specs.Limits.{CoversFew}
@@ -79,6 +80,27 @@ module _ (v : code.Setting) (bs : List NamedBehavior) (h : ℕ) where
   others_good is count k (c ∷ cs) le names g =
       good_both count (of_kind is (Some k) c.clauses) (of_behaviors is (suc k) cs) (one_good is count k (omega (arith, le)) names c.clauses g.0) (others_good is count (suc k) cs (omega (arith, le)) names g.1)
 
+-- ---- kinds
+
+-- what isn't of a variant is no value
+pub no_value : (k : Kind) (t : LogicTerm) → IsSaidBy k (logic.Value t) → k ≡ kind.Variant
+no_value kind.Variant t h = refl
+no_value kind.Requires t h = absurd h
+no_value kind.Assumes t h = absurd h
+no_value kind.Ensures t h = absurd h
+no_value kind.Assert t h = absurd h
+no_value kind.Complete t h = absurd h
+no_value kind.Disjoint t h = absurd h
+no_value kind.Invariant t h = absurd h
+no_value kind.Rte t h = absurd h
+
+entry_kind : (k : Kind) → is_requires k ≡ true ⊎ is_assumes k ≡ true → k ≡ kind.Variant → ⊥
+entry_kind k (inl e) same = let no : is_requires kind.Variant ≡ true = subst (λ k. is_requires k ≡ true) same e in cc
+entry_kind k (inr e) same = let no : is_assumes kind.Variant ≡ true = subst (λ k. is_assumes k ≡ true) same e in cc
+
+end_kind : (k : Kind) → is_ensures k ≡ true → k ≡ kind.Variant → ⊥
+end_kind k e same = let no : is_ensures kind.Variant ≡ true = subst (λ k. is_ensures k ≡ true) same e in cc
+
 -- ---- a contract
 
 module _ (p : TranslationUnit) (f : Function) (c : FunctionContract) (stands : ContractStands p f c) (seen : Seen) where
@@ -99,10 +121,10 @@ module _ (p : TranslationUnit) (f : Function) (c : FunctionContract) (stands : C
 
     begin_good : (q : Predicate) → PredicateTyped view q → PredicateRanged seen q → PredicateRanged v.seen q × PredicateFound v.plan v.now.scope (sorts_held v.held) q
     begin_good q typed ranged = (
-      subst (λ m. PredicateRanged m q) (sym none) (predicate_alone seen view (λ t x i. i) q typed ranged),
+      subst (λ m. PredicateRanged m q) (sym none) (predicate_alone seen view (λ t x i. i) (λ x i. i) q typed ranged),
       subst (λ ks. PredicateFound ks v.now.scope (sorts_held v.held) q) (sym plan)
           (subst (λ hs. PredicateFound [] v.now.scope (sorts_held hs) q) (sym held)
-          (typed_found view v.now.scope [] [] (λ x t d. own_there p f c stands v.now.scope names x t d) tt q (no_entry q typed ranged) typed)),
+          (typed_found view v.now.scope [] [] (λ x t d. own_there p f c stands v.now.scope names x t d) tt (λ x i. absurd i) q (inl (λ t x i. i)) (no_entry q typed ranged) typed)),
     )
 
   -- at the end, where the terms of the contract are kept
@@ -114,7 +136,7 @@ module _ (p : TranslationUnit) (f : Function) (c : FunctionContract) (stands : C
     end_good : (q : Predicate) → PredicateTyped last q → PredicateRanged seen q → ((x : Entry) → IsIn x (in_predicate q) → Planned v.plan x.0 x.1) → PredicateRanged v.seen q × PredicateFound v.plan v.now.scope (sorts_held v.held) q
     end_good q typed ranged planned = (
       subst (λ m. PredicateRanged m q) (sym same) ranged,
-      typed_found last v.now.scope v.plan (sorts_held v.held) (λ x t d. own_there p f c stands v.now.scope names x t d) sorted q planned typed,
+      typed_found last v.now.scope v.plan (sorts_held v.held) (λ x t d. own_there p f c stands v.now.scope names x t d) sorted (λ x i. absurd i) q (inr (typed_apart last q typed)) planned typed,
     )
 
   -- ---- by their kinds
@@ -157,20 +179,20 @@ module _ (p : TranslationUnit) (f : Function) (c : FunctionContract) (stands : C
   not_both kind.Rte e h = cc
 
   -- a clause that is typed is a predicate
-  predicate_of : (s : AnnotationSight) (b : ClauseBody) → ClauseTyped s b → ClauseRanged seen b → (q : Predicate) × (b ≡ Holds q) × PredicateTyped s q × PredicateRanged seen q
-  predicate_of s (Raw g) t r = absurd t
-  predicate_of s (Holds q) t r = (q, refl, t, r)
-  predicate_of s (logic.Value t) k r = absurd k
-  predicate_of s (Behaviors names) t r = absurd t
+  predicate_of : (k : Kind) (s : AnnotationSight) (b : ClauseBody) → (k ≡ kind.Variant → ⊥) → IsSaidBy k b → ClauseTyped s b → ClauseRanged seen b → (q : Predicate) × (b ≡ Holds q) × PredicateTyped s q × PredicateRanged seen q
+  predicate_of k s (Raw g) other said t r = absurd t
+  predicate_of k s (Holds q) other said t r = (q, refl, t, r)
+  predicate_of k s (logic.Value x) other said t r = absurd (other (no_value k x said))
+  predicate_of k s (Behaviors names) other said t r = absurd t
 
   module _ (v : code.Setting) (plan : v.plan ≡ []) (held : v.held ≡ []) (none : v.seen ≡ []) (names : AtBeginning p f v.now.scope) (bs : List NamedBehavior) (h : ℕ) where
     clauses_begin : (is : Kind → Bool) → ((k : Kind) → is k ≡ true → is_requires k ≡ true ⊎ is_assumes k ≡ true) → (annots : List Annotation) → ClausesTyped views annots → AnnotationsRanged seen annots → KindGood v bs h is annots
     clauses_begin is kinds [] t r = tt
     clauses_begin is kinds (a ∷ rest) t r = (
       λ e.
-          let q = predicate_of (views kind.Requires) a.body (subst (λ s. ClauseTyped s a.body) (at_entry a.kind (kinds a.kind e)) t.0) r.0 in
+          let q = predicate_of a.kind (views kind.Requires) a.body (entry_kind a.kind (kinds a.kind e)) t.1 (subst (λ s. ClauseTyped s a.body) (at_entry a.kind (kinds a.kind e)) t.0) r.0 in
           (q.0, q.1, begin_good v plan held none names q.0 q.2 q.3),
-      clauses_begin is kinds rest t.1 r.1,
+      clauses_begin is kinds rest t.2 r.1,
     )
 
     behaviors_begin : (is : Kind → Bool) → ((k : Kind) → is k ≡ true → is_requires k ≡ true ⊎ is_assumes k ≡ true) → (cs : List NamedBehavior) → BehaviorsTyped views cs → BehaviorsRanged seen cs → BehaviorsGood v bs h is cs
@@ -186,9 +208,9 @@ module _ (p : TranslationUnit) (f : Function) (c : FunctionContract) (stands : C
     clauses_end [] t r planned = tt
     clauses_end (a ∷ rest) t r planned = (
       λ e.
-          let q = predicate_of (views kind.Ensures) a.body (subst (λ k. ClauseTyped (views k) a.body) (at_end a.kind e) t.0) r.0 in
+          let q = predicate_of a.kind (views kind.Ensures) a.body (end_kind a.kind e) t.1 (subst (λ k. ClauseTyped (views k) a.body) (at_end a.kind e) t.0) r.0 in
           (q.0, q.1, end_good v same names sorted kept q.0 q.2 q.3 (λ x i. planned x (in_front (in_clause a.body) (in_annotations rest) x (subst (λ b. IsIn x (in_clause b)) (sym q.1) i)))),
-      clauses_end rest t.1 r.1 (λ x i. planned x (in_back (in_clause a.body) (in_annotations rest) x i)),
+      clauses_end rest t.2 r.1 (λ x i. planned x (in_back (in_clause a.body) (in_annotations rest) x i)),
     )
 
     behaviors_end : (cs : List NamedBehavior) → BehaviorsTyped views cs → BehaviorsRanged seen cs → ((x : Entry) → IsIn x (in_behaviors cs) → Planned v.plan x.0 x.1) → BehaviorsGood v bs h is_ensures cs

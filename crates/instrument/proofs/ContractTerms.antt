@@ -23,7 +23,7 @@ use Rattle.c_model.specs.Unranged.{ClauseRanged, AnnotationsRanged}
 use Rattle.c_model.specs.UnrangedPrograms.{BehaviorsRanged}
 use Rattle.annot_simulation.specs.Plan.{Entry, IsIn, in_annotations, in_behaviors, in_clause, in_contract}
 use Rattle.annot_simulation.proofs.Found.{under_found}
-use Rattle.annot_simulation.proofs.TypedEntries.{EntryStands, sight_of, predicate_stands, term_alone}
+use Rattle.annot_simulation.proofs.TypedEntries.{EntryStands, sight_of, predicate_stands, term_alone, value_stands}
 use Rattle.instrument.proofs.Births.{names_of, with_numbers}
 use Rattle.instrument.proofs.CheckedFunctions.{AtBeginning}
 use Rattle.instrument.proofs.KeptFunctions.{IsSeen, in_either}
@@ -120,7 +120,7 @@ module _ (p : TranslationUnit) (f : Function) where
         let is = of_kind k x.0 e.sight e.there in (
           is.0,
           (
-            term_alone seen (under_label (views k) e.sight) (λ t x i. i) x.1 e.typed e.ranged,
+            term_alone seen (under_label (views k) e.sight) (λ t x i. i) (λ x i. i) x.1 e.typed e.ranged,
             λ scope names. under_found (views k) e.sight scope (λ x t d. own_there scope names x t (subst (λ v. Denotes v x t) is.1 d)) x.1 e.typed e.side,
           ),
         )
@@ -128,12 +128,12 @@ module _ (p : TranslationUnit) (f : Function) where
     clause_kept : (seen : Seen) (k : Kind) (b : ClauseBody) → ClauseTyped (views k) b → ClauseRanged seen b → (x : Entry) → IsIn x (in_clause b) → IsKept x
     clause_kept seen k (Raw g) q r x i = absurd q
     clause_kept seen k (Holds b) q r x i = entry_kept seen k x (predicate_stands (views k) seen b q r x i)
-    clause_kept seen k (logic.Value t) q r x i = absurd q
+    clause_kept seen k (logic.Value t) q r x i = entry_kept seen k x (value_stands (views k) seen t q.0 q.1 r x i)
     clause_kept seen k (Behaviors names) q r x i = absurd q
 
     clauses_kept : (seen : Seen) (annots : List Annotation) → ClausesTyped views annots → AnnotationsRanged seen annots → (x : Entry) → IsIn x (in_annotations annots) → IsKept x
     clauses_kept seen [] q r x i = absurd i
-    clauses_kept seen (a ∷ rest) q r x i = either (in_clause a.body) (in_annotations rest) x i (λ j. clause_kept seen a.kind a.body q.0 r.0 x j) (λ j. clauses_kept seen rest q.1 r.1 x j)
+    clauses_kept seen (a ∷ rest) q r x i = either (in_clause a.body) (in_annotations rest) x i (λ j. clause_kept seen a.kind a.body q.0 r.0 x j) (λ j. clauses_kept seen rest q.2 r.1 x j)
 
     behaviors_kept : (seen : Seen) (bs : List NamedBehavior) → BehaviorsTyped views bs → BehaviorsRanged seen bs → (x : Entry) → IsIn x (in_behaviors bs) → IsKept x
     behaviors_kept seen [] q r x i = absurd i

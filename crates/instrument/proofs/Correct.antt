@@ -30,7 +30,7 @@ use Rattle.mon_syntax.specs.declared.tree.MonType.{MonType}
 use Rattle.mon_syntax.specs.Registers.{no_registers, with_kinds}
 use Rattle.mon_syntax.specs.Meaning.{Result, Done, Stops, Next, writes, then_do, at_next, at_label, at_return, exec_all, exit_of, registers, level, body_runs, zero_result}
 use Rattle.mon_syntax.specs.Meaning as monitored
-use Rattle.mon_syntax.specs.BlockMemory.{over_blocks, integer_of, block_run, block_of_global}
+use Rattle.mon_syntax.specs.BlockMemory.{over_blocks, block_run, block_of_global}
 use Rattle.mon_syntax.specs.LiveBlocks.{LiveBlock, live_in}
 use Rattle.mon_syntax.specs.Trees.{MonFunction, MonStatements, Then, Labelled, Return, Register}
 use Rattle.c_effects.specs.Expressions.{before, one}
@@ -407,7 +407,7 @@ module _ (p : TranslationUnit) (parts : Parts p p.funcs) (main_is : main_fault p
     pre_code = snapshot p (at_start p mine f).bound None (at_start p mine f).kinds (plan_of f)
 
     passed : IsPassed (w s.store) low after None entered t (runs (w s.store) n t pre_code after)
-    passed = laws.pre s.store (0 + 1) [] after entered t meets_first
+    passed = laws.pre s.store (0 + 1) [] after entered t meets_first le
 
     meets_marked : MeetsBody p gs m m f call calls n s.store (0 + 1) [] passed.after marked t
     meets_marked =

@@ -1,12 +1,15 @@
 -- What is declared in statements: it is new there, so that the names in sight keep their registers.
-use Rattle.std.proofs.Common.{◌≡◌, ℕ, ◌≤◌, Bool, true, false, cond, nat_eq, List, [], ◌∷◌, ◌++◌, length, length-append, Some, refl, sym, ◌∙◌, subst, arith}
+use Rattle.std.proofs.Common.{◌≡◌, ℕ, ◌≤◌, Bool, true, false, cond, nat_eq, List, [], ◌∷◌, ◌++◌, length, length-append, Option, None, Some, refl, sym, ◌∙◌, subst, arith}
 use Rattle.std.proofs.lemmas.Bool.Decides.{nat_tests}
+use Rattle.c_syntax.specs.Expressions.{Expression}
+use Rattle.c_syntax.specs.Logic.{Annotation, LogicTerm}
 use Rattle.c_syntax.specs.Programs.{TranslationUnit}
 use Rattle.c_syntax.specs.Statements.{Declaration, Statement, Empty, Eval, Block, If, While, Do, For, Break, Continue, Return, ElsePart, NoElse, Else, ForFirst, NoFirst, First, BlockItem, Declare, Specify, Run, Asserts, BlockItems, NoItem, Then}
 use Rattle.c_syntax.specs.Statements.{Labelled, Switch, Cases, NoCase, AnotherCase}
 use Rattle.c_model.specs.Memory.{Value}
 use Rattle.c_model.specs.State.{State, Scope, find}
 use Rattle.c_model.specs.Meaning.{declared_in, declared_first}
+use Rattle.c_model.specs.Predicates.{variant}
 use Rattle.c_model.specs.Formed.{number_of, declared_within, declared_in_cases, declared_in_else, declared_in_first, declared_in_item, declared_in_items}
 use Rattle.mon_syntax.specs.declared.tree.MonType.{MonType}
 use Rattle.mon_syntax.specs.Registers.{Bindings, RegisterTable, register_of, with_kinds, next_register}
@@ -17,11 +20,13 @@ use Rattle.c_initialisers.specs.Translation.{declaration_temporaries}
 use Rattle.c_effects.specs.Effects.{any_temporaries}
 use Rattle.c_effects.specs.Full.{act_takes, takes}
 use Rattle.track_scopes.specs.Blocks.{AreSmall, with_pointer, entered}
-use Rattle.instrument.specs.Translation.{Spot, after_statement, after_cases, after_else, after_first, after_item, after_items, passed_label, returned_temporaries, switch_temporaries}
+use Rattle.instrument.specs.LoopClauses.{behind_variant}
+use Rattle.instrument.specs.Translation.{Spot, after_invariants, before_body, after_turn, after_statement, after_cases, after_else, after_first, after_item, after_items, passed_label, returned_temporaries, switch_temporaries}
 use Rattle.instrument.proofs.DeclarationCode.{next-entered}
 use Rattle.c_simulation.specs.Standing.{Target, Setting, Here, IsAnchored, InRegister, AtGlobal, Anchored}
 use Rattle.c_simulation.proofs.Following.{standing_as}
 use Rattle.instrument.proofs.Births.{names_of, with_numbers}
+use Rattle.instrument.proofs.Asserts.{invariants_grow, valuation_grows}
 use Rattle.instrument.proofs.Blocks.{Meets}
 use Rattle.instrument.proofs.Own.{AreOwn, AreLocal}
 use Rattle.c_simulation.proofs.Registers.{register_of-bound_other}
@@ -47,7 +52,7 @@ abbrev mutual
   pub CanDeclare : TranslationUnit → List ℕ → Statement → Type 0
   CanDeclare p living (Block at items) = AreBorn p (declared_in items) × ItemsCanDeclare p (with_numbers (declared_in items) living) items
   CanDeclare p living (If at e a b) = AreAbsent living (declared_within a) × CanDeclare p living a × ElseCanDeclare p living b
-  CanDeclare p living (While at annots e a) = CanDeclare p living a
+  CanDeclare p living (While at annots e a) = AreAbsent living (declared_within a) × CanDeclare p living a
   CanDeclare p living (Do at a e) = AreAbsent living (declared_within a) × CanDeclare p living a
   CanDeclare p living (For at annots first e step a) =
       AreBorn p (declared_first first) × AreAbsent (with_numbers (declared_first first) living) (declared_within a) × CanDeclare p (with_numbers (declared_first first) living) a
@@ -117,11 +122,11 @@ mutual
   statement_other p plan x (If at e a b) r h =
       else_other p plan x b (after_statement p plan a (with_kinds (takes p e) r)) (not_back x (declared_within a) (declared_in_else b) h)
       ∙ statement_other p plan x a (with_kinds (takes p e) r) (not_front x (declared_within a) (declared_in_else b) h)
-  statement_other p plan x (While at annots e a) r h = statement_other p plan x a (with_kinds (takes p e) r) h
+  statement_other p plan x (While at annots e a) r h = statement_other p plan x a (before_body p plan annots (Some e) r) h
   statement_other p plan x (Do at a e) r h = statement_other p plan x a r h
   statement_other p plan x (For at annots first e behind a) r h =
       let own = not_front x (declared_in_first first) (declared_within a) h in
-      statement_other p plan x a (with_kinds (any_temporaries (takes p) e) (after_first p plan first (entered (declared_first first) r))) (not_back x (declared_in_first first) (declared_within a) h)
+      statement_other p plan x a (before_body p plan annots e (after_first p plan first (entered (declared_first first) r))) (not_back x (declared_in_first first) (declared_within a) h)
       ∙ first_other p plan x first (entered (declared_first first) r) own
       ∙ entered_other x (declared_first first) r (not_first x first own)
   statement_other p plan x (Break at) r h = refl
@@ -208,6 +213,22 @@ meets_behind_items w h spot low is r living regs s t absent m =
 pub more_kinds : (ts : List MonType) (r : RegisterTable) → next_register r ≤ next_register (with_kinds ts r)
 more_kinds ts r = omega (arith, length-append r.kinds ts)
 
+-- after the variant of a loop, its invariants and its condition, and after a turn
+pub variant_grows : (p : TranslationUnit) (bound : Bindings) (plan : List Kept) (rs : List MonType) (o : Option (Annotation × LogicTerm)) → length rs ≤ length (behind_variant p bound plan rs o)
+variant_grows p bound plan rs None = omega arith
+variant_grows p bound plan rs (Some v) = valuation_grows p bound plan [] v.1 rs
+
+pub body_behind : (p : TranslationUnit) (plan : List Kept) (annots : List Annotation) (e : Option Expression) (r : RegisterTable) → next_register r ≤ next_register (before_body p plan annots e r)
+body_behind p plan annots e r =
+    let one = after_invariants p plan annots r in
+    let two = with_kinds (any_temporaries (takes p) e) one in
+    omega (arith, invariants_grow p r.bound plan r.kinds annots, more_kinds (any_temporaries (takes p) e) one, variant_grows p r.bound plan two.kinds (variant annots))
+
+pub turn_grows : (p : TranslationUnit) (plan : List Kept) (annots : List Annotation) (e : Option Expression) (r : RegisterTable) → next_register r ≤ next_register (after_turn p plan annots e r)
+turn_grows p plan annots e r =
+    let one = with_kinds (any_temporaries (act_takes p) e) r in
+    omega (arith, more_kinds (any_temporaries (act_takes p) e) r, variant_grows p r.bound plan one.kinds (variant annots))
+
 mutual
   pub statement_grows : (p : TranslationUnit) (plan : List Kept) (a : Statement) (r : RegisterTable) → next_register r ≤ next_register (after_statement p plan a r)
   statement_grows p plan (Empty at) r = omega arith
@@ -216,19 +237,21 @@ mutual
   statement_grows p plan (If at e a b) r =
       let one = with_kinds (takes p e) r in
       omega (arith, more_kinds (takes p e) r, statement_grows p plan a one, else_grows p plan b (after_statement p plan a one))
-  statement_grows p plan (While at annots e a) r = omega (arith, more_kinds (takes p e) r, statement_grows p plan a (with_kinds (takes p e) r))
+  statement_grows p plan (While at annots e a) r =
+      let one = before_body p plan annots (Some e) r in
+      omega (arith, body_behind p plan annots (Some e) r, statement_grows p plan a one, turn_grows p plan annots None (after_statement p plan a one))
   statement_grows p plan (Do at a e) r = omega (arith, statement_grows p plan a r, more_kinds (takes p e) (after_statement p plan a r))
   statement_grows p plan (For at annots first e behind a) r =
       let one = entered (declared_first first) r in
       let two = after_first p plan first one in
-      let three = with_kinds (any_temporaries (takes p) e) two in
+      let three = before_body p plan annots e two in
       omega (
         arith,
         next-entered (declared_first first) r,
         first_grows p plan first one,
-        more_kinds (any_temporaries (takes p) e) two,
+        body_behind p plan annots e two,
         statement_grows p plan a three,
-        more_kinds (any_temporaries (act_takes p) behind) (after_statement p plan a three),
+        turn_grows p plan annots behind (after_statement p plan a three),
       )
   statement_grows p plan (Break at) r = omega arith
   statement_grows p plan (Continue at) r = omega arith

@@ -12,10 +12,10 @@ use Rattle.mon_syntax.specs.declared.tree.MonType.{MonType}
 use Rattle.mon_syntax.specs.declared.tree.MonType.TheVariants.{Ptr}
 use Rattle.mon_syntax.specs.Registers.{Bindings, Names, RegisterTable, next_register, no_registers, with_kinds, with_table}
 use Rattle.mon_syntax.specs.Trees.{MonFunction, MonStatements, NoStatement, Then, Labelled, plain_func as plain_monitored_func}
-use Rattle.track_scopes.specs.Blocks.{deaths, entered, with_born, with_pointer}
+use Rattle.track_scopes.specs.Blocks.{deaths, entered, with_pointer}
 use Rattle.c_effects.specs.Expressions.{before}
 use Rattle.c_effects.specs.Named.{unit_of, with_registers}
-use Rattle.c_effects.proofs.Sequences.{before_assoc, left_at}
+use Rattle.c_effects.proofs.Sequences.{left_at}
 use Rattle.c_simulation.specs.Keeping.{Kept}
 use Rattle.c_simulation.specs.Labels.{leave_label}
 use Rattle.annot_code.specs.Checks.{names_behind_entry}

@@ -1,19 +1,22 @@
 -- How deep translated statements stand in one another, and that no step stands in them outside their loops.
-use Rattle.std.proofs.Common.{◌≡◌, ℕ, zero, suc, pos, ◌+◌, ◌*◌, ◌≤◌, Bool, true, false, if◌then◌else◌, List, [], ◌∷◌, ◌++◌, length, Option, Some, None, max, refl, arith}
+use Rattle.std.proofs.Common.{◌≡◌, ℕ, zero, suc, pos, ◌+◌, ◌*◌, ◌≤◌, Bool, true, false, if◌then◌else◌, List, [], ◌∷◌, ◌++◌, length, Option, Some, None, max, refl, subst, arith}
 use Rattle.std.proofs.Math.Nat.{max-le, le-max_left, le-max_right}
 use Rattle.c_syntax.specs.Expressions.{Expression, Node, Number, type_of}
 use Rattle.c_syntax.specs.Statements.{Declaration, Statement, Empty, Eval, Block, If, While, Do, For, Break, Continue, Return, ElsePart, NoElse, Else, ForFirst, NoFirst, First, BlockItem, Declare, Specify, Run, Asserts, BlockItems, NoItem, Then}
 use Rattle.c_syntax.specs.Statements.{Labelled, Switch, Cases, NoCase, AnotherCase}
+use Rattle.c_syntax.specs.Logic.{LogicTerm, ClauseBody, Raw, Holds, Value, Behaviors, Annotation}
 use Rattle.c_syntax.specs.Programs.{TranslationUnit}
 use Rattle.c_syntax.specs.Layouts.{size_of}
 use Rattle.c_model.specs.Formed as form
-use Rattle.c_model.specs.Formed.{number_of}
+use Rattle.c_model.specs.Formed.{AreLoopClauses, number_of}
+use Rattle.c_model.specs.Predicates.{variant, variant_in}
 use Rattle.c_model.specs.TypedTrees.{WhereAny}
+use Rattle.instrument.proofs.RangedTrees.{AreRangedClauses}
 use Rattle.instrument.proofs.FormedTrees.{IsFull, AreInitialised, FirstFormed, StatementFormed, CasesFormed, ElseFormed, ItemFormed, ItemsFormed}
 use Rattle.c_model.specs.Sizes.{forms_of, most_forms}
 use Rattle.c_model.specs.Meaning.{declared_in, declared_first, default_of}
 use Rattle.mon_syntax.specs.declared.tree.MonType.{MonType}
-use Rattle.mon_syntax.specs.declared.tree.MonType.TheVariants.{U64}
+use Rattle.mon_syntax.specs.declared.tree.MonType.TheVariants.{I32, U64}
 use Rattle.mon_syntax.specs.Registers.{Bindings, RegisterTable, with_kinds, next_register}
 use Rattle.mon_syntax.specs.Trees.{MonExpression, MonStatements, NoStatement}
 use Rattle.mon_syntax.specs.Trees as tree
@@ -22,15 +25,19 @@ use Rattle.track_scopes.specs.Blocks.{entered, deaths}
 use Rattle.c_effects.specs.Expressions.{value_type, before, one, set}
 use Rattle.c_initialisers.specs.Translation.{initialise, initialise_all, initialise_local, may_be_born, initial_temporaries}
 use Rattle.c_effects.specs.Effects.{block_of, any_temporaries}
-use Rattle.c_effects.specs.Full.{condition_result, prepare, result, takes}
-use Rattle.instrument.specs.Translation.{all_live, Spot, in_loop, in_switch, with_variables, leave_where_zero, test, test_if_any, act_if_any, loop, for_turns, returned, returned_temporaries, switch_temporaries, after_statement, after_first}
+use Rattle.c_effects.specs.Full.{act_takes, condition_result, prepare, result, takes}
+use Rattle.instrument.specs.LoopClauses.{behind_invariant, behind_invariants, invariant_code, invariants_code, smaller, variant_compared, variant_kept, variant_value, wanted}
+use Rattle.instrument.specs.Translation.{all_live, Spot, in_loop, in_switch, with_variables, leave_where_zero, test, test_if_any, act_if_any, loop, before_body, front_of, kept_of, compared_of, turns_of, returned, returned_temporaries}
+use Rattle.instrument.specs.Translation.{switch_temporaries, after_statement, after_first}
 use Rattle.instrument.specs.Translation.{after_item, after_items, given_register, leaving, passed_label, way_out}
 use Rattle.instrument.specs.Translation.{case_label, test_case, tests_of_cases, search, where_reached, others_in_block, statement, next_cases, blocks_of_cases, else_part, first_part, item, items}
 use Rattle.c_simulation.specs.Keeping.{Kept}
 use Rattle.c_simulation.specs.Labels.{end_label, next_label, leave_label}
 use Rattle.instrument.proofs.FullDepths.{no_step_before, no_step_act, no_step_prepare, deep_act, deep_behind, deep_one, deep_prepare, deep_set}
 use Rattle.annot_simulation.specs.Snapshots.{snapshot}
-use Rattle.annot_simulation.proofs.Asserted.{assertions_deep}
+use Rattle.annot_simulation.specs.Code.{valuation}
+use Rattle.annot_simulation.specs.Code.{type_of as code_type}
+use Rattle.annot_simulation.proofs.Asserted.{assertion_deep, assertions_deep, no_step_assertion, no_step_valuation, valuation_deep}
 use Rattle.annot_simulation.proofs.Depths.{deep_before}
 use Rattle.annot_simulation.proofs.SnapshotDepths.{AreShort, snapshot_deep}
 use Rattle.instrument.proofs.ValidInitialisers.{deep_initialise}
@@ -49,6 +56,35 @@ module _ (p : TranslationUnit) (bound : Bindings) (rs : Types) where
   pub no_step_act_if_any : (e : Option Expression) → has_no_step (act_if_any p bound rs e) ≡ true
   no_step_act_if_any None = refl
   no_step_act_if_any (Some e) = no_step_act p bound rs e
+
+-- in front of the step of a loop, and after its body
+pub no_step_invariants : (p : TranslationUnit) (bound : Bindings) (plan : List Kept) (rs : Types) (annots : List Annotation) → has_no_step (invariants_code p bound plan rs annots) ≡ true
+no_step_invariants p bound plan rs [] = refl
+no_step_invariants p bound plan rs (a ∷ annots) =
+    no_step_before (invariant_code p bound plan rs a a.body) (invariants_code p bound plan (behind_invariant p bound plan rs a a.body) annots) (by a.body)
+    (no_step_invariants p bound plan (behind_invariant p bound plan rs a a.body) annots)
+  where
+    by : (c : ClauseBody) → has_no_step (invariant_code p bound plan rs a c) ≡ true
+    by (Raw f) = no_step_assertion p bound plan [] rs a
+    by (Holds q) = no_step_assertion p bound plan [] rs a
+    by (Value t) = refl
+    by (Behaviors names) = no_step_assertion p bound plan [] rs a
+
+no_step_wanted : (a : Annotation) (p : TranslationUnit) (bound : Bindings) (plan : List Kept) (rs : Types) (t : LogicTerm) → has_no_step (wanted a (valuation p bound plan [] t rs)) ≡ true
+no_step_wanted a p bound plan rs t =
+    let c = valuation p bound plan [] t rs in
+    no_step_before c.stmts (one (tree.Assert (tree.Register c.flag) (tree.Constant I32 (pos 1)) a.number a.place.line a.kind)) (no_step_valuation p bound plan [] t rs) refl
+
+pub no_step_kept : (p : TranslationUnit) (bound : Bindings) (plan : List Kept) (rs : Types) (o : Option (Annotation × LogicTerm)) → has_no_step (variant_kept p bound plan rs o) ≡ true
+no_step_kept p bound plan rs None = refl
+no_step_kept p bound plan rs (Some v) = no_step_wanted v.0 p bound plan rs v.1
+
+pub no_step_compared : (p : TranslationUnit) (bound later : Bindings) (plan : List Kept) (rs behind : Types) (o : Option (Annotation × LogicTerm)) → has_no_step (variant_compared p bound later plan rs behind o) ≡ true
+no_step_compared p bound later plan rs behind None = refl
+no_step_compared p bound later plan rs behind (Some v) =
+    no_step_before (wanted v.0 (variant_value p later plan behind v))
+    (one (tree.Assert (tree.Constant I32 (pos 1)) (smaller (code_type v.1) (variant_value p bound plan rs v).value (variant_value p later plan behind v).value) v.0.number v.0.place.line v.0.kind))
+    (no_step_wanted v.0 p later plan behind v.1) refl
 
 -- ---- how deep
 
@@ -69,12 +105,14 @@ deep_leaving out live e n le = let d = deep_deaths live in deep_before (deaths l
     by (Some r) = deep_one (tree.Goto leave_label) n le
 
 -- a loop whose body is n deep
-deep_loop : (loops : ℕ) (front body behind : MonStatements) (n : ℕ) → depth_of_all front ≤ suc n → depth_of_all body ≤ n → depth_of_all behind ≤ suc n → depth_of_all (one (loop loops front body behind)) ≤ n + 3
-deep_loop loops front body behind n f b h =
-    let round : max (suc (depth_of_all body)) (depth_of_all behind) ≤ suc n = max-le (omega (arith, b)) h in
-    let both : max (depth_of_all front) (max (suc (depth_of_all body)) (depth_of_all behind)) ≤ suc n = max-le f round in
-    let whole : max 1 (max (depth_of_all front) (max (suc (depth_of_all body)) (depth_of_all behind))) ≤ suc n = max-le (omega arith) both in
-    let turns : max (suc (max 1 (max (depth_of_all front) (max (suc (depth_of_all body)) (depth_of_all behind))))) 0 ≤ n + 2 = max-le (omega (arith, whole)) (omega arith) in
+deep_loop : (loops : ℕ) (front kept body behind : MonStatements) (n : ℕ) → depth_of_all front ≤ suc n → depth_of_all kept ≤ suc n → depth_of_all body ≤ n → depth_of_all behind ≤ suc n
+    → depth_of_all (one (loop loops front kept body behind)) ≤ n + 3
+deep_loop loops front kept body behind n f k b h =
+    let rest = tree.Then (tree.Labelled body (next_label loops)) behind in
+    let round : depth_of_all (before kept rest) ≤ suc n = deep_before kept rest (suc n) k (max-le (omega (arith, b)) h) in
+    let both : max (depth_of_all front) (depth_of_all (before kept rest)) ≤ suc n = max-le f round in
+    let whole : max 1 (max (depth_of_all front) (depth_of_all (before kept rest))) ≤ suc n = max-le (omega arith) both in
+    let turns : max (suc (max 1 (max (depth_of_all front) (depth_of_all (before kept rest))))) 0 ≤ n + 2 = max-le (omega (arith, whole)) (omega arith) in
     max-le (omega (arith, turns)) (omega arith)
 
 -- what is done behind a test of the index
@@ -121,6 +159,49 @@ module _ (p : TranslationUnit) where
       by true = let x = deep_initialise p bound rs (block_of bound (number_of d)) d.ctype d.init f.0 in omega (arith, x)
       by false = omega arith
 
+-- ---- annotations of loops
+
+invariants_deep : (p : TranslationUnit) (bound : Bindings) (plan : List Kept) (rs : Types) (annots : List Annotation) → AreLoopClauses annots → depth_of_all (invariants_code p bound plan rs annots) ≤ most_deep
+invariants_deep p bound plan rs [] h = omega arith
+invariants_deep p bound plan rs (a ∷ annots) h =
+    deep_before (invariant_code p bound plan rs a a.body) (invariants_code p bound plan (behind_invariant p bound plan rs a a.body) annots) most_deep (by a.body)
+    (invariants_deep p bound plan (behind_invariant p bound plan rs a a.body) annots h.1)
+  where
+    by : (c : ClauseBody) → depth_of_all (invariant_code p bound plan rs a c) ≤ most_deep
+    by (Raw f) = let d = assertion_deep p bound plan [] rs a h.0.body in omega (arith, d)
+    by (Holds q) = let d = assertion_deep p bound plan [] rs a h.0.body in omega (arith, d)
+    by (Value t) = omega arith
+    by (Behaviors names) = let d = assertion_deep p bound plan [] rs a h.0.body in omega (arith, d)
+
+-- a variant has few tokens
+pub variant_few : (annots : List Annotation) (v : Annotation × LogicTerm) → variant annots ≡ Some v → AreLoopClauses annots → form.tokens_of_term v.1 ≤ 400
+variant_few [] v e h = absurd cc
+variant_few (a ∷ rest) v e h = by (λ f. variant_few rest v f h.1) a.body e h.0.body
+  where
+    by : (variant rest ≡ Some v → form.tokens_of_term v.1 ≤ 400) → (c : ClauseBody) → variant_in a c (variant rest) ≡ Some v → form.IsShortClause c → form.tokens_of_term v.1 ≤ 400
+    by others (Raw f) e r = absurd r
+    by others (Holds p) e r = others e
+    by others (Value t) e r = let same : t ≡ v.1 = cc in subst (λ t. form.tokens_of_term t ≤ 400) same r.1
+    by others (Behaviors names) e r = absurd r
+
+wanted_deep : (a : Annotation) (p : TranslationUnit) (bound : Bindings) (plan : List Kept) (rs : Types) (t : LogicTerm) → form.tokens_of_term t ≤ 400 → depth_of_all (wanted a (valuation p bound plan [] t rs)) ≤ most_deep
+wanted_deep a p bound plan rs t few =
+    let c = valuation p bound plan [] t rs in
+    deep_before c.stmts (one (tree.Assert (tree.Register c.flag) (tree.Constant I32 (pos 1)) a.number a.place.line a.kind)) most_deep (let d = valuation_deep p bound plan [] t rs few in omega (arith, d)) (omega arith)
+
+kept_deep : (p : TranslationUnit) (bound : Bindings) (plan : List Kept) (rs : Types) (o : Option (Annotation × LogicTerm)) → ((v : Annotation × LogicTerm) → o ≡ Some v → form.tokens_of_term v.1 ≤ 400)
+    → depth_of_all (variant_kept p bound plan rs o) ≤ most_deep
+kept_deep p bound plan rs None few = omega arith
+kept_deep p bound plan rs (Some v) few = wanted_deep v.0 p bound plan rs v.1 (few v refl)
+
+compared_deep : (p : TranslationUnit) (bound later : Bindings) (plan : List Kept) (rs behind : Types) (o : Option (Annotation × LogicTerm)) → ((v : Annotation × LogicTerm) → o ≡ Some v → form.tokens_of_term v.1 ≤ 400)
+    → depth_of_all (variant_compared p bound later plan rs behind o) ≤ most_deep
+compared_deep p bound later plan rs behind None few = omega arith
+compared_deep p bound later plan rs behind (Some v) few =
+    deep_before (wanted v.0 (variant_value p later plan behind v))
+    (one (tree.Assert (tree.Constant I32 (pos 1)) (smaller (code_type v.1) (variant_value p bound plan rs v).value (variant_value p later plan behind v).value) v.0.number v.0.place.line v.0.kind)) most_deep
+    (wanted_deep v.0 p later plan behind v.1 (few v refl)) (omega arith)
+
 module _ (p : TranslationUnit) (plan : List Kept) (short : AreShort plan) where
   deep_returned : (spot : Spot) (r : RegisterTable) (e : Option Expression) → WhereAny (IsFull p.structs) e → depth_of_all (returned p plan spot r e) ≤ most_deep
   deep_returned spot r None f = deep_leaving spot.result (all_live spot) None most_deep (omega arith)
@@ -140,6 +221,22 @@ module _ (p : TranslationUnit) (plan : List Kept) (short : AreShort plan) where
   deep_first spot r (First (Declare ds)) f = deep_initials p r.bound r.kinds ds f
   deep_first spot r (First (Specify at t)) f = omega arith
   deep_first spot r _ f = absurd f
+
+  -- the turns of a loop, with its annotations
+  deep_turns : (annots : List Annotation) → AreRangedClauses annots → (spot : Spot) (r after : RegisterTable) (e step : Option Expression) → WhereAny (IsFull p.structs) e → WhereAny (IsFull p.structs) step → (body : MonStatements) (n : ℕ)
+      → most_deep ≤ n → depth_of_all body ≤ n → depth_of_all (turns_of p plan annots (spot.levels + 1) r after e step body) ≤ n + 3
+  deep_turns annots h spot r after e step f g body n le deep_body =
+      let loops = spot.levels + 1 in
+      let tests = test_if_any p r.bound (behind_invariants p r.bound plan r.kinds annots) loops e in
+      let act = act_if_any p after.bound after.kinds step in
+      let x = deep_test_if_any p r.bound (behind_invariants p r.bound plan r.kinds annots) loops e f in
+      let y = deep_act_if_any p after.bound after.kinds step g in
+      let front = deep_before (invariants_code p r.bound plan r.kinds annots) tests most_deep (invariants_deep p r.bound plan r.kinds annots h.are) x in
+      let few = λ (v : Annotation × LogicTerm) (is : variant annots ≡ Some v). variant_few annots v is h.are in
+      let kept = kept_deep p r.bound plan (behind_invariants p r.bound plan r.kinds annots ++ any_temporaries (takes p) e) (variant annots) few in
+      let compared = compared_deep p r.bound after.bound plan (behind_invariants p r.bound plan r.kinds annots ++ any_temporaries (takes p) e) (after.kinds ++ any_temporaries (act_takes p) step) (variant annots) few in
+      let behind = deep_before act (compared_of p plan annots r e after step) most_deep y compared in
+      deep_loop loops (front_of p plan annots loops r e) (kept_of p plan annots r e) body (before act (compared_of p plan annots r e after step)) n (omega (arith, front, le)) (omega (arith, kept, le)) deep_body (omega (arith, behind, le))
 
   mutual
     pub deep : (spot : Spot) (r : RegisterTable) (a : Statement) → StatementFormed p.structs a → depth_of_all (statement p plan spot r a) ≤ 4 * form.depth a + most_deep
@@ -163,34 +260,29 @@ module _ (p : TranslationUnit) (plan : List Kept) (short : AreShort plan) where
         deep_behind p r.bound r.kinds e (tree.If (condition_result p r.bound r.kinds e) (statement p plan spot first a) (else_part p plan spot second b))
         (4 * (1 + max (form.depth a) (form.depth_of_else b)) + most_deep) (omega (arith, s)) (omega (arith, m))
     deep spot r (While at annots e a) f =
-        let loops = spot.levels + 1 in
-        let inside = with_kinds (takes p e) r in
+        let inside = before_body p plan annots (Some e) r in
         let x = deep (in_loop spot) inside a f.2 in
-        let y = deep_test p r.bound r.kinds loops e f.1.small.few in
-        let d = deep_loop loops (test p r.bound r.kinds loops e) (statement p plan (in_loop spot) inside a) NoStatement (4 * form.depth a + most_deep) (omega (arith, y)) x (omega arith) in
+        let d = deep_turns annots f.0 spot r (after_statement p plan a inside) (Some e) None f.1 tt (statement p plan (in_loop spot) inside a) (4 * form.depth a + most_deep) (omega arith) x in
         omega (arith, d)
     deep spot r (Do at a e) f =
         let loops = spot.levels + 1 in
         let after = after_statement p plan a r in
         let x = deep (in_loop spot) r a f.0 in
         let y = deep_test p after.bound after.kinds loops e f.1.small.few in
-        let d = deep_loop loops NoStatement (statement p plan (in_loop spot) r a) (test p after.bound after.kinds loops e) (4 * form.depth a + most_deep) (omega arith) x (omega (arith, y)) in
+        let d = deep_loop loops NoStatement NoStatement (statement p plan (in_loop spot) r a) (test p after.bound after.kinds loops e) (4 * form.depth a + most_deep) (omega arith) (omega arith) x (omega (arith, y)) in
         omega (arith, d)
     deep spot r (For at annots first e step a) f =
         let own = declared_first first in
         let inside = with_variables (next_register r) own spot in
-        let loops = spot.levels + 1 in
         let born = entered own r in
         let begun = after_first p plan first born in
-        let tested = with_kinds (any_temporaries (takes p) e) begun in
+        let tested = before_body p plan annots e begun in
         let after = after_statement p plan a tested in
         let x = deep (in_loop inside) tested a f.4 in
-        let y = deep_test_if_any p begun.bound begun.kinds loops e f.2 in
-        let z = deep_act_if_any p after.bound after.kinds step f.3 in
         let g = deep_first inside born first f.1 in
         let body = statement p plan (in_loop inside) tested a in
-        let whole = for_turns p loops begun after e step body in
-        let d = deep_loop loops (test_if_any p begun.bound begun.kinds loops e) body (act_if_any p after.bound after.kinds step) (4 * form.depth a + most_deep) (omega (arith, y)) x (omega (arith, z)) in
+        let whole = turns_of p plan annots (spot.levels + 1) begun after e step body in
+        let d = deep_turns annots f.0 inside begun after e step f.2 f.3 body (4 * form.depth a + most_deep) (omega arith) x in
         let n = 4 * (1 + form.depth a) + most_deep in
         deep_alive p (next_register r) own (before (first_part p plan inside born first) whole) n (deep_before (first_part p plan inside born first) whole n (omega (arith, g)) (omega (arith, d))) (omega arith)
     deep spot r (Break at) f = deep_jump spot.inside (end_label spot.levels) (4 * 1 + most_deep) (omega arith)

@@ -10,7 +10,7 @@ use Rattle.c_model.specs.Sizes.{IsSmall}
 use Rattle.c_model.specs.SmallTypes.{TypesSmall}
 use Rattle.c_model.specs.FullExpressions.{EachInitial, EachDeclared, EachIn, EachInCases, EachInElse, EachInFirst, EachInItem, EachInItems}
 use Rattle.c_model.specs.EffectPlaces.{FirstPlaced, StatementPlaced, CasesPlaced, ElsePlaced, ItemsPlaced, ItemPlaced}
-use Rattle.instrument.proofs.RangedTrees.{AreRangedAsserts, nothing_declared}
+use Rattle.instrument.proofs.RangedTrees.{AreRangedAsserts, AreRangedClauses, nothing_declared}
 use Rattle.instrument.proofs.FormedTrees.{IsFull, InitialFormed, AreInitialised, FirstFormed, StatementFormed, CasesFormed, ElseFormed, ItemFormed, ItemsFormed}
 
 module _ (structs : List StructType) where
@@ -37,7 +37,7 @@ module _ (structs : List StructType) where
   first_formed _ p h t = absurd p
 
   mutual
-    pub statement_formed : (a : Statement) → StatementPlaced AreRangedAsserts a → EachIn IsSmall a → EachIn Few a → StatementFormed structs a
+    pub statement_formed : (a : Statement) → StatementPlaced AreRangedAsserts AreRangedClauses a → EachIn IsSmall a → EachIn Few a → StatementFormed structs a
     statement_formed (Empty at) p h t = tt
     statement_formed (Eval at e) p h t = record { small = h; types = t }
     statement_formed (Block at items) p h t = items_formed items p h t
@@ -51,19 +51,19 @@ module _ (structs : List StructType) where
     statement_formed (Labelled at l a) p h t = statement_formed a p h t
     statement_formed (Switch at e cases) p h t = (record { small = h.0; types = t.0 }, cases_formed cases p h.1 t.1)
 
-    cases_formed : (cs : Cases) → CasesPlaced AreRangedAsserts cs → EachInCases IsSmall cs → EachInCases Few cs → CasesFormed structs cs
+    cases_formed : (cs : Cases) → CasesPlaced AreRangedAsserts AreRangedClauses cs → EachInCases IsSmall cs → EachInCases Few cs → CasesFormed structs cs
     cases_formed NoCase p h t = tt
     cases_formed (AnotherCase at v items rest) p h t = (nothing_declared items p.0, items_formed items p.1 h.0 t.0, cases_formed rest p.2 h.1 t.1)
 
-    else_formed : (b : ElsePart) → ElsePlaced AreRangedAsserts b → EachInElse IsSmall b → EachInElse Few b → ElseFormed structs b
+    else_formed : (b : ElsePart) → ElsePlaced AreRangedAsserts AreRangedClauses b → EachInElse IsSmall b → EachInElse Few b → ElseFormed structs b
     else_formed NoElse p h t = tt
     else_formed (Else a) p h t = statement_formed a p h t
 
-    pub items_formed : (is : BlockItems) → ItemsPlaced AreRangedAsserts is → EachInItems IsSmall is → EachInItems Few is → ItemsFormed structs is
+    pub items_formed : (is : BlockItems) → ItemsPlaced AreRangedAsserts AreRangedClauses is → EachInItems IsSmall is → EachInItems Few is → ItemsFormed structs is
     items_formed NoItem p h t = tt
     items_formed (Then i rest) p h t = (item_formed i p.0 h.0 t.0, items_formed rest p.1 h.1 t.1)
 
-    item_formed : (i : BlockItem) → ItemPlaced AreRangedAsserts i → EachInItem IsSmall i → EachInItem Few i → ItemFormed structs i
+    item_formed : (i : BlockItem) → ItemPlaced AreRangedAsserts AreRangedClauses i → EachInItem IsSmall i → EachInItem Few i → ItemFormed structs i
     item_formed (Declare ds) p h t = declared_formed ds h t
     item_formed (Specify at u) p h t = tt
     item_formed (Run a) p h t = statement_formed a p h t

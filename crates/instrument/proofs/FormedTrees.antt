@@ -10,7 +10,7 @@ use Rattle.c_model.specs.TypedTrees.{WhereAny}
 use Rattle.c_model.specs.Sizes.{IsSmall}
 use Rattle.c_model.specs.SmallTypes.{TypesSmall}
 use Rattle.c_model.specs.FullExpressions.{EachInitial}
-use Rattle.instrument.proofs.RangedTrees.{AreRangedAsserts}
+use Rattle.instrument.proofs.RangedTrees.{AreRangedAsserts, AreRangedClauses}
 
 -- among these structs
 module _ (structs : List StructType) where
@@ -41,10 +41,10 @@ module _ (structs : List StructType) where
     StatementFormed (Eval at e) = IsFull e
     StatementFormed (Block at items) = ItemsFormed items
     StatementFormed (If at e a b) = IsFull e × StatementFormed a × ElseFormed b
-    StatementFormed (While at annots e a) = (annots ≡ []) × IsFull e × StatementFormed a
+    StatementFormed (While at annots e a) = AreRangedClauses annots × IsFull e × StatementFormed a
     StatementFormed (Do at a e) = StatementFormed a × IsFull e
     StatementFormed (For at annots first e step a) =
-        (annots ≡ []) × FirstFormed first × WhereAny IsFull e × WhereAny IsFull step × StatementFormed a
+        AreRangedClauses annots × FirstFormed first × WhereAny IsFull e × WhereAny IsFull step × StatementFormed a
     StatementFormed (Break at) = Unit {0}
     StatementFormed (Continue at) = Unit {0}
     StatementFormed (Return at e) = WhereAny IsFull e

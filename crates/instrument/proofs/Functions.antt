@@ -1,5 +1,5 @@
 -- A call of a function: a step, a frame, the parameters, the body, and what the call gives.
-use Rattle.std.proofs.Common.{◌≡◌, inr, ℕ, zero, suc, ◌+◌, ◌-◌, ◌≤◌, pos, Bool, true, false, cond, if◌then◌else◌, nat_eq, nat_lt, List, [], ◌∷◌, ◌++◌, length, length-append, append_assoc, Option, Some, None, refl, sym, ap, ◌∙◌, subst}
+use Rattle.std.proofs.Common.{◌≡◌, inr, ℕ, zero, suc, ◌+◌, ◌≤◌, pos, Bool, true, false, cond, if◌then◌else◌, nat_eq, nat_lt, List, [], ◌∷◌, ◌++◌, length, length-append, append_assoc, Option, Some, None, refl, sym, ap, ◌∙◌, subst}
 use Rattle.std.proofs.Common.{arith, drop, length-drop}
 use Rattle.std.proofs.lemmas.List.{append-nil, length-map}
 use Rattle.c_syntax.specs.declared.place.Place.{Place}
@@ -9,9 +9,8 @@ use Rattle.c_syntax.specs.Programs.{FunctionContract, Function, TranslationUnit}
 use Rattle.c_syntax.specs.Statements.{Declaration}
 use Rattle.c_model.specs.Limits.{most_frames}
 use Rattle.c_model.specs.Memory.{Value, Store, kill_from}
-use mathlib.Core.Path.{fun_ext}
 use Rattle.c_model.specs.ContractChecks.{entry, ending}
-use Rattle.c_model.specs.State.{State, Mark, Spent, Full, Over, Outcome, Normal, Stop, Evaluation, on_outcome, ◌>>=◌, ◌>>◌, done, give, step_from, frame, alone, mark, called, answered, back_from_call}
+use Rattle.c_model.specs.State.{State, Spent, Full, Over, Outcome, Normal, Stop, Evaluation, on_outcome, ◌>>=◌, ◌>>◌, done, give, step_from, frame, alone, mark, called, answered, back_from_call}
 use Rattle.c_model.specs.Meaning.{Callee, Tables, tables_of, global_scope, parameters, body_with, returned_by, at_close, call_with}
 use Rattle.c_model.specs.MonitoredRuns as machine
 use Rattle.c_model.specs.UnitTyping.{types_of}
@@ -25,7 +24,7 @@ use Rattle.mon_syntax.specs.BlockMemory.{over_blocks}
 use Rattle.mon_syntax.specs.LiveBlocks.{LiveBlock, live_in}
 use Rattle.mon_syntax.specs.Trees.{MonFunction, MonStatements, MonRegister}
 use Rattle.c_effects.specs.Expressions.{before}
-use Rattle.track_scopes.specs.Blocks.{deaths, with_born}
+use Rattle.track_scopes.specs.Blocks.{deaths}
 use Rattle.track_scopes.specs.Lives as lives
 use Rattle.track_scopes.specs.Lives.{AreFrom, with_store}
 use Rattle.instrument.specs.Translation.{Spot, at_start, behind_pre, body_code, body_part, code_of, contract_types, behind_own, first_own, first_pointer}
@@ -38,14 +37,12 @@ use Rattle.instrument.proofs.KeptPlans.{plan_stands, registers_keep}
 use Rattle.instrument.proofs.Passages.{IsPassed}
 use Rattle.mon_syntax.specs.declared.tree.MonType.{MonType}
 use Rattle.instrument.specs.Translation as target
-use Rattle.c_simulation.specs.Standing.{Target, Did, Setting, runs, Bounded, Here, Beside, Anchored, IsKept}
+use Rattle.c_simulation.specs.Standing.{Target, Did, Setting, runs, Bounded, Beside, Anchored}
 use Rattle.track_scopes.proofs.Deaths.{deaths_end}
 use Rattle.c_simulation.proofs.Results.{writes_none, written_then, before_is}
 use Rattle.c_simulation.specs.Following.{written, left_by}
 use Rattle.c_simulation.proofs.Registers.{get-end}
-use Rattle.instrument.proofs.Lives.{length-killed}
-use Rattle.instrument.proofs.Deaths.{bounded_killed, all_before, live_killed}
-use Rattle.c_simulation.proofs.Following.{standing_as}
+use Rattle.instrument.proofs.Deaths.{all_before}
 use Rattle.c_simulation.specs.Following.{Later, Passes, Follows, GoesOn, Breaks, Continues, IsLeft, IsOver, IsUndefined}
 use Rattle.instrument.proofs.Births.{with_numbers, pointed_point, pointed_same}
 use Rattle.instrument.proofs.Blocks.{Meets, meets_after}
@@ -222,7 +219,7 @@ module _ (p : TranslationUnit) (globals : List Value) (main index : ℕ) (f : Fu
   -- the label `Pre` is passed, where the parameters live
   abbrev pub PreFollows : Type 0
   PreFollows =
-      (store : Store) (active : ℕ) (blocks : List LiveBlock) (regs : List Value) (s : State) (t : Target) → MeetsBody store active blocks regs s t
+      (store : Store) (active : ℕ) (blocks : List LiveBlock) (regs : List Value) (s : State) (t : Target) → MeetsBody store active blocks regs s t → s.steps ≤ n
       → IsPassed (setting store active) (first + count) regs None s t (runs (setting store active) n t (snapshot p (at_start p own f).bound None (at_start p own f).kinds (plan_of f)) regs)
 
   -- what a call gives from there on: the body, and what the contract asks
@@ -351,7 +348,7 @@ module _ (p : TranslationUnit) (globals : List Value) (main index : ℕ) (f : Fu
       framed (SomeUndefined x to e o) =
           HasNoMeaning x (back_from_call s to) [] (ap finish e) (o ∙ sym (append-nil s.output)) (record { rest = written (tail (runs w n entered_target (target.parameters p first 0 f.params) opens)); is = refl })
       framed (AllBorn to regs u blocks e x m l) =
-          let passed = pre s.store (s.calls + 1) blocks regs to u m in
+          let passed = pre s.store (s.calls + 1) blocks regs to u m (omega (arith, le, l.spent)) in
           let there : State = record to { marks = record { label = None; scope = to.scope; store = to.store } ∷ to.marks } in
           let passes : Passes to there [] =
           record { scope = refl; calls = refl; live = refl; longer = omega arith; bounded = m.standing.bounded; spent = omega arith; output = sym (append-nil to.output); marks = refl } in

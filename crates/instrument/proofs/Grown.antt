@@ -1,8 +1,8 @@
 -- Registers are only added where what a contract asks and a body are translated.
-use Rattle.std.proofs.Common.{◌≡◌, ◌∙◌, ℕ, suc, ◌+◌, ◌≤◌, List, [], ◌++◌, length, Option, Some, None, sym, ap, subst, arith}
+use Rattle.std.proofs.Common.{◌≡◌, ◌∙◌, ℕ, ◌+◌, ◌≤◌, List, [], length, Option, Some, None, ap, arith}
 use Rattle.std.proofs.lemmas.List.{length-append}
 use Rattle.c_syntax.specs.Statements.{Declaration, Statement}
-use Rattle.c_syntax.specs.Programs.{FunctionContract, Function, TranslationUnit}
+use Rattle.c_syntax.specs.Programs.{FunctionContract, TranslationUnit}
 use Rattle.c_model.specs.ContractChecks.{entry_checks}
 use Rattle.mon_syntax.specs.Registers.{Names, RegisterTable, next_register}
 use Rattle.mon_syntax.specs.Valid.{Types}

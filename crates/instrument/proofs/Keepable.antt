@@ -14,7 +14,7 @@ use Rattle.c_simulation.specs.Keeping.{Kept}
 use Rattle.annot_simulation.specs.Does.{Planned}
 use Rattle.annot_simulation.specs.Plan.{Entry, IsIn, in_annotations, in_contract}
 use Rattle.annot_simulation.proofs.SnapshotDepths.{AreShort}
-use Rattle.annot_simulation.proofs.TypedEntries.{NoNames}
+use Rattle.annot_simulation.specs.Beside.{NoNames}
 use Rattle.instrument.specs.Translation.{plan_of}
 use Rattle.instrument.proofs.Throughout.{ThroughoutItems}
 
@@ -41,6 +41,7 @@ pub record AssertsWritable (ks : List Kept) (v : Sight) (annots : List Annotatio
   pub view : AnnotationSight
   pub here : view.here ≡ v
   pub alone : NoNames view.clause
+  pub unbound : view.binders ≡ []
   pub typed : AnnotationsTyped view annots
   pub planned : (x : Entry) → IsIn x (in_annotations annots) → Planned ks x.0 x.1
 

@@ -26,9 +26,10 @@ use Rattle.c_model.specs.UnrangedPrograms.{BehaviorsRanged, ContractRanged}
 use Rattle.c_simulation.specs.Keeping.{registers_of}
 use Rattle.annot_simulation.specs.Plan.{Entry, IsIn, in_annotations, in_behaviors, in_clause, in_contract, in_items, kept_from, planned}
 use Rattle.annot_simulation.specs.Plan as plan
-use Rattle.annot_simulation.proofs.ShortEntries.{IsShortEntry, predicate_short}
+use Rattle.annot_simulation.proofs.ShortEntries.{IsShortEntry, predicate_short, term_short}
 use Rattle.annot_simulation.proofs.SnapshotDepths.{AreShort}
-use Rattle.annot_simulation.proofs.TypedEntries.{EntryStands, NoNames, predicate_stands, term_alone}
+use Rattle.annot_simulation.specs.Beside.{NoNames}
+use Rattle.annot_simulation.proofs.TypedEntries.{EntryStands, predicate_stands, term_alone, value_stands}
 use Rattle.instrument.specs.Translation.{first_own, plan_of}
 use Rattle.instrument.proofs.Annotated.{IsAnnotated}
 use Rattle.instrument.proofs.ContractTerms.{of_kind}
@@ -36,7 +37,7 @@ use Rattle.instrument.proofs.Keepable.{AssertsWritable, AtStart, IsKeepable, IsP
 use Rattle.instrument.proofs.KeptFunctions.{entry_planned, in_back, in_either, in_front, same_is}
 use Rattle.instrument.proofs.KeptTerms.{EntryAt, ItemsSites, Known, Where, items_at, items_so}
 use Rattle.instrument.proofs.LabelSites.{Site, StandsThere, each_stands, one_place, sites_in_items}
-use Rattle.instrument.proofs.RangedTrees.{AreRangedAsserts}
+use Rattle.instrument.proofs.RangedTrees.{AreRangedAsserts, AreRangedClauses}
 
 -- ---- plans
 
@@ -68,7 +69,7 @@ module _ (p : TranslationUnit) (f : Function) where
             sight = e.sight;
             typed = e.typed;
             side = e.side;
-            ranged = term_alone seen (under_label (views k) e.sight) (λ t x i. i) x.1 e.typed e.ranged;
+            ranged = term_alone seen (under_label (views k) e.sight) (λ t x i. i) (λ x i. i) x.1 e.typed e.ranged;
             numbered = short.numbered;
             few = short.few;
           },
@@ -85,13 +86,13 @@ module _ (p : TranslationUnit) (f : Function) where
     clause_of : (k : Kind) (b : ClauseBody) → ClauseTyped (views k) b → ClauseRanged seen b → IsShortClause b → (x : Entry) → IsIn x (in_clause b) → IsOfContract x
     clause_of k (Raw g) q r short x i = absurd q
     clause_of k (Holds b) q r short x i = entry_of k x (predicate_stands (views k) seen b q r x i) (predicate_short b short.numbered short.short x i)
-    clause_of k (logic.Value t) q r short x i = absurd q
+    clause_of k (logic.Value t) q r short x i = entry_of k x (value_stands (views k) seen t q.0 q.1 r x i) (term_short t short.0 short.1 x i)
     clause_of k (Behaviors names) q r short x i = absurd q
 
     clauses_of : (IsKind : Kind → Type 0) (annots : List Annotation) → ClausesTyped views annots → AnnotationsRanged seen annots → AreClausesOf IsKind IsShortClause annots → (x : Entry) → IsIn x (in_annotations annots) → IsOfContract x
     clauses_of IsKind [] q r short x i = absurd i
     clauses_of IsKind (a ∷ rest) q r short x i =
-        either (in_clause a.body) (in_annotations rest) x i (λ j. clause_of a.kind a.body q.0 r.0 short.0.body x j) (λ j. clauses_of IsKind rest q.1 r.1 short.1 x j)
+        either (in_clause a.body) (in_annotations rest) x i (λ j. clause_of a.kind a.body q.0 r.0 short.0.body x j) (λ j. clauses_of IsKind rest q.2 r.1 short.1 x j)
 
     behaviors_of : (bs : List NamedBehavior) → BehaviorsTyped views bs → BehaviorsRanged seen bs → BehaviorsFormed IsShortClause bs → (x : Entry) → IsIn x (in_behaviors bs) → IsOfContract x
     behaviors_of [] q r short x i = absurd i
@@ -110,7 +111,7 @@ module _ (p : TranslationUnit) (f : Function) where
   -- ---- a function
 
   module _ (sight : Sight) (place : Place) (items : BlockItems) (is : f.body ≡ Some (Block place items)) (noted : ItemsNoted (in_body (with_parameters (inner sight) f.params)) items)
-      (placed : ItemsPlaced AreRangedAsserts items) (distinct : typed_labels f.body ≡ Good tt) (a : IsAnnotated p f) where
+      (placed : ItemsPlaced AreRangedAsserts AreRangedClauses items) (distinct : typed_labels f.body ≡ Good tt) (a : IsAnnotated p f) where
     abbrev root : Sight
     root = with_parameters (inner sight) f.params
 
@@ -127,7 +128,7 @@ module _ (p : TranslationUnit) (f : Function) where
     sites = each_stands items root
 
     known : Known Stands root (in_body root)
-    known = record { body = refl; labels = λ l v e. absurd cc }
+    known = record { body = refl; binders = refl; labels = λ l v e. absurd cc }
 
     body_is : plan.in_body f.body ≡ in_items items
     body_is = ap plan.in_body is
@@ -164,7 +165,7 @@ module _ (p : TranslationUnit) (f : Function) where
         record {
           begins = keepable_of (first_own f) (planned f) (AtStart p f root) None at_beginning;
           body = items_so Stands root ks (LabelKeepable ks) (AssertsWritable ks) (λ l v st. keepable_of (first_own f) (planned f) (λ s. s ≡ v) (Some l) (at_label l v st))
-              (λ view k annots q all_planned. record { view = view; here = refl; alone = subst NoNames (sym k.body) (λ t x i. i); typed = q; planned = all_planned }) items (in_body root) known noted placed sites
+              (λ view k annots q all_planned. record { view = view; here = refl; alone = subst NoNames (sym k.body) (λ t x i. i); unbound = k.binders; typed = q; planned = all_planned }) items (in_body root) known noted placed sites
               (λ x i. entry_planned (first_own f) (planned f) a.apart x (in_back (in_contract f.contract) (plan.in_body f.body) x (subst (IsIn x) (sym body_is) i)));
           short = short_of (first_own f) (planned f) few;
           contract = λ x i. entry_planned (first_own f) (planned f) a.apart x (in_front (in_contract f.contract) (plan.in_body f.body) x i);

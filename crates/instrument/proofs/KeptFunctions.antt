@@ -85,7 +85,7 @@ module _ (p : TranslationUnit) (f : Function) (part : Part p f) (body : HasBody 
     sites = each_stands body.items root
 
     known : Known Stands root (in_body root)
-    known = record { body = refl; labels = λ l v e. absurd cc }
+    known = record { body = refl; binders = refl; labels = λ l v e. absurd cc }
 
     body_is : plan.in_body f.body ≡ in_items body.items
     body_is = ap plan.in_body body.is

@@ -1,5 +1,5 @@
 -- The plan of a function where a call of it begins (ACSL 2.4.3): no label was passed, and its flags are 0, as all registers are that are no arguments.
-use Rattle.std.proofs.Common.{◌≡◌, ℕ, zero, suc, ◌+◌, ◌<◌, ◌≤◌, pos, Bool, true, false, List, [], ◌∷◌, ◌++◌, length, length-append, append_assoc, map, drop, Option, Some, None, slice_get, refl, sym, ap, ◌∙◌, subst, arith}
+use Rattle.std.proofs.Common.{◌≡◌, ℕ, zero, suc, ◌+◌, ◌≤◌, pos, Bool, true, false, List, [], ◌∷◌, ◌++◌, length, length-append, append_assoc, map, drop, Some, None, slice_get, refl, sym, ap, ◌∙◌, subst, arith}
 use Rattle.c_syntax.specs.Logic.{LogicTerm}
 use Rattle.c_model.specs.Memory.{Value}
 use Rattle.mon_syntax.specs.declared.tree.MonType.{MonType}

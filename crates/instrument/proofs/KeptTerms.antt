@@ -10,24 +10,24 @@ use Rattle.c_model.specs.AnnotationSights.{AnnotationSight, InBody, beginning, m
 use Rattle.c_model.specs.AnnotationTyping.{inside_block, inside_for, with_label, behind_labels, labels_behind, behind_noted, behind_case}
 use Rattle.c_model.specs.EffectPlaces.{FirstPlaced, DeclareNothing, StatementPlaced, CasesPlaced, ElsePlaced, ItemPlaced, ItemsPlaced}
 use Rattle.c_model.specs.ExpressionTyping.{Sight, inner}
-use Rattle.c_model.specs.Formed.{AreAsserts, IsShortClause}
+use Rattle.c_model.specs.Formed.{IsShortClause}
 use Rattle.c_model.specs.State.{Scope, same_label}
 use Rattle.c_model.specs.StatementTyping.{behind, behind_first}
 use Rattle.c_model.specs.TermRanges.{TermRanged}
 use Rattle.c_model.specs.TypedAnnotations.{StatementNoted, CasesNoted, ElseNoted, ItemNoted, ItemsNoted}
-use Rattle.c_model.specs.TypedPredicates.{IsIntegerTerm, IsPointerTerm, TermTyped, ClauseTyped, AnnotationsTyped}
+use Rattle.c_model.specs.TypedPredicates.{IsBound, IsIntegerTerm, IsPointerTerm, TermTyped, ClauseTyped, AnnotationsTyped}
 use Rattle.c_model.specs.Unranged.{ClauseRanged, AnnotationsRanged}
 use Rattle.c_simulation.specs.Keeping.{Kept, registers_of}
 use Rattle.interval_infer.specs.InSight.{AreFound}
-use Rattle.annot_simulation.specs.Beside.{ResultSorted}
+use Rattle.annot_simulation.specs.Beside.{BindersSorted, NoNames, ResultSorted}
 use Rattle.annot_simulation.specs.Does.{Planned, SideFound}
 use Rattle.annot_simulation.specs.Plan.{Entry, IsIn, kept_from, in_annotations, in_cases, in_clause, in_else, in_first, in_item, in_items, in_statement}
-use Rattle.annot_simulation.proofs.Beside.{terms_under_labels_are_found, typed_predicates_are_found}
-use Rattle.annot_simulation.proofs.ShortEntries.{IsShortEntry, predicate_short}
-use Rattle.annot_simulation.proofs.TypedEntries.{EntryStands, sight_of, predicate_stands}
+use Rattle.annot_simulation.proofs.Beside.{terms_under_labels_are_found, typed_predicates_are_found, typed_terms_are_found}
+use Rattle.annot_simulation.proofs.ShortEntries.{IsShortEntry, predicate_short, term_short}
+use Rattle.annot_simulation.proofs.TypedEntries.{EntryStands, sight_of, predicate_stands, value_stands}
 use Rattle.instrument.proofs.Passages.{ClauseFound, AnnotationsFound, AssertsKept, ItemsKept, KeptAt, LabelKept}
 use Rattle.instrument.proofs.Throughout.{Throughout, ThroughoutCases, ThroughoutElse, ThroughoutItem, ThroughoutItems}
-use Rattle.instrument.proofs.RangedTrees.{AreRangedAsserts}
+use Rattle.instrument.proofs.RangedTrees.{AreRangedAsserts, AreRangedClauses, AreShort, short_asserts, short_clauses}
 
 -- ---- the labels of a body
 
@@ -81,6 +81,7 @@ module _ (Stands : ℕ → Sight → Type 0) where
     -- labels that are known stand where they say, in a body that begins where this is in sight
     pub record Known (view : AnnotationSight) : Type 0 where
       pub body : view.clause ≡ InBody root
+      pub binders : view.binders ≡ []
       pub labels : (l : ℕ) (v : Sight) → marked l view.labels ≡ Some v → Stands l v
 
     abbrev pub AllAt : List Entry → Type 0
@@ -104,16 +105,16 @@ module _ (Stands : ℕ → Sight → Type 0) where
     clause_at : (view : AnnotationSight) → Known view → (c : ClauseBody) → ClauseTyped view c → ClauseRanged [] c → IsShortClause c → AllAt (in_clause c)
     clause_at view k (Raw f) q r short = absurd q
     clause_at view k (Holds p) q r short = λ x i. entry_at view k x (predicate_stands view [] p q r x i) (predicate_short p short.numbered short.short x i)
-    clause_at view k (logic.Value t) q r short = absurd q
+    clause_at view k (logic.Value t) q r short = λ x i. entry_at view k x (value_stands view [] t q.0 q.1 r x i) (term_short t short.0 short.1 x i)
     clause_at view k (Behaviors names) q r short = absurd q
 
-    annotations_at : (view : AnnotationSight) → Known view → (annots : List Annotation) → AnnotationsTyped view annots → AnnotationsRanged [] annots → AreAsserts annots → AllAt (in_annotations annots)
+    annotations_at : (view : AnnotationSight) → Known view → (annots : List Annotation) → AnnotationsTyped view annots → AnnotationsRanged [] annots → AreShort annots → AllAt (in_annotations annots)
     annotations_at view k [] q r are = none
-    annotations_at view k (a ∷ rest) q r are = both (in_clause a.body) (in_annotations rest) (clause_at view k a.body q.0 r.0 are.0.body) (annotations_at view k rest q.1 r.1 are.1)
+    annotations_at view k (a ∷ rest) q r are = both (in_clause a.body) (in_annotations rest) (clause_at view k a.body q.0 r.0 are.0) (annotations_at view k rest q.1 r.1 are.1)
 
     -- behind labels
     labelled : (view : AnnotationSight) (l : ℕ) → Known view → Stands l view.here → Known (with_label view l)
-    labelled view l k st = record { body = k.body; labels = λ m v e. by m v (nat_eq l m) refl e }
+    labelled view l k st = record { body = k.body; binders = k.binders; labels = λ m v e. by m v (nat_eq l m) refl e }
       where
         by : (m : ℕ) (v : Sight) (t : Bool) → nat_eq l m ≡ t → cond t (Some view.here) (marked m view.labels) ≡ Some v → Stands m v
         by m v true same e = let there : view.here ≡ v = cc in subst (λ m. Stands m v) (eqb-true l m same) (subst (Stands l) there st)
@@ -130,7 +131,7 @@ module _ (Stands : ℕ → Sight → Type 0) where
     item_known (Asserts annots) view k st = k
 
     elsewhere : (view : AnnotationSight) (s : Sight) → Known view → Known (record view { here = s })
-    elsewhere view s k = record { body = k.body; labels = k.labels }
+    elsewhere view s k = record { body = k.body; binders = k.binders; labels = k.labels }
 
     -- labels change nothing of what is in sight
     labels_here : (a : Statement) (view : AnnotationSight) → (behind_labels view a).here ≡ view.here
@@ -152,9 +153,6 @@ module _ (Stands : ℕ → Sight → Type 0) where
         record { known = later.known; here = later.here ∙ same }
     behind_items (Then (Asserts annots) rest) view d k st = behind_items rest view d.1 k st.1
 
-    no_annotations : (annots : List Annotation) → annots ≡ [] → AllAt (in_annotations annots)
-    no_annotations annots e = subst (λ l. AllAt (in_annotations l)) (sym e) none
-
     first_at : (first : ForFirst) → FirstPlaced first → AllAt (in_first first)
     first_at NoFirst p = none
     first_at (First (Declare ds)) p = none
@@ -174,15 +172,16 @@ module _ (Stands : ℕ → Sight → Type 0) where
     first_at (First (Asserts annots)) p = absurd p
 
     mutual
-      statement_at : (a : Statement) (view : AnnotationSight) → Known view → StatementNoted view a → StatementPlaced AreRangedAsserts a → Sites view.here a → AllAt (in_statement a)
+      statement_at : (a : Statement) (view : AnnotationSight) → Known view → StatementNoted view a → StatementPlaced AreRangedAsserts AreRangedClauses a → Sites view.here a → AllAt (in_statement a)
       statement_at (Empty at) view k m p st = none
       statement_at (Eval at e) view k m p st = none
       statement_at (Block at items) view k m p st = items_at items (inside_block view) (elsewhere view (inner view.here) k) m p st
       statement_at (If at e a b) view k m p st = both (in_statement a) (in_else b) (statement_at a view k m.0 p.0 st.0) (else_at b view k m.1 p.1 st.1)
-      statement_at (While at annots e a) view k m p st = both (in_annotations annots) (in_statement a) (no_annotations annots p.0) (statement_at a view k m.1 p.1 st)
+      statement_at (While at annots e a) view k m p st = both (in_annotations annots) (in_statement a) (annotations_at view k annots m.0 p.0.ranged (short_clauses annots p.0.are)) (statement_at a view k m.1 p.1 st)
       statement_at (Do at a e) view k m p st = statement_at a view k m p st
       statement_at (For at annots first e step a) view k m p st =
-          both (in_annotations annots) (in_first first ++ in_statement a) (no_annotations annots p.0)
+          both (in_annotations annots) (in_first first ++ in_statement a)
+          (annotations_at (inside_for view first) (elsewhere view (behind_first (inner view.here) first) k) annots m.0 p.0.ranged (short_clauses annots p.0.are))
           (both (in_first first) (in_statement a) (first_at first p.1) (statement_at a (inside_for view first) (elsewhere view (behind_first (inner view.here) first) k) m.1 p.2 st))
       statement_at (Break at) view k m p st = none
       statement_at (Continue at) view k m p st = none
@@ -190,23 +189,23 @@ module _ (Stands : ℕ → Sight → Type 0) where
       statement_at (Labelled at l a) view k m p st = statement_at a (with_label view l) (labelled view l k st.0) m p st.1
       statement_at (Switch at e cases) view k m p st = cases_at cases view k m p st
 
-      cases_at : (cs : Cases) (view : AnnotationSight) → Known view → CasesNoted view cs → CasesPlaced AreRangedAsserts cs → CasesSites view.here cs → AllAt (in_cases cs)
+      cases_at : (cs : Cases) (view : AnnotationSight) → Known view → CasesNoted view cs → CasesPlaced AreRangedAsserts AreRangedClauses cs → CasesSites view.here cs → AllAt (in_cases cs)
       cases_at NoCase view k m p st = none
       cases_at (AnotherCase at v items rest) view k m p st =
           let later = behind_items items view p.0 k st.0 in
           both (in_items items) (in_cases rest) (items_at items view k m.0 p.1 st.0) (cases_at rest (behind_case view items) later.known m.1 p.2 (subst (λ s. CasesSites s rest) (sym later.here) st.1))
 
-      else_at : (b : ElsePart) (view : AnnotationSight) → Known view → ElseNoted view b → ElsePlaced AreRangedAsserts b → ElseSites view.here b → AllAt (in_else b)
+      else_at : (b : ElsePart) (view : AnnotationSight) → Known view → ElseNoted view b → ElsePlaced AreRangedAsserts AreRangedClauses b → ElseSites view.here b → AllAt (in_else b)
       else_at NoElse view k m p st = none
       else_at (Else a) view k m p st = statement_at a view k m p st
 
-      item_at : (i : BlockItem) (view : AnnotationSight) → Known view → ItemNoted view i → ItemPlaced AreRangedAsserts i → ItemSites view.here i → AllAt (in_item i)
+      item_at : (i : BlockItem) (view : AnnotationSight) → Known view → ItemNoted view i → ItemPlaced AreRangedAsserts AreRangedClauses i → ItemSites view.here i → AllAt (in_item i)
       item_at (Declare ds) view k m p st = none
       item_at (Specify at t) view k m p st = none
       item_at (Run a) view k m p st = statement_at a view k m p st
-      item_at (Asserts annots) view k m p st = annotations_at view k annots m p.ranged p.are
+      item_at (Asserts annots) view k m p st = annotations_at view k annots m p.ranged (short_asserts annots p.are)
 
-      pub items_at : (is : BlockItems) (view : AnnotationSight) → Known view → ItemsNoted view is → ItemsPlaced AreRangedAsserts is → ItemsSites view.here is → AllAt (in_items is)
+      pub items_at : (is : BlockItems) (view : AnnotationSight) → Known view → ItemsNoted view is → ItemsPlaced AreRangedAsserts AreRangedClauses is → ItemsSites view.here is → AllAt (in_items is)
       items_at NoItem view k m p st = none
       items_at (Then i rest) view k m p st =
           both (in_item i) (in_items rest) (item_at i view k m.0 p.0 st.0) (items_at rest (behind_noted view i) (elsewhere (labels_behind view i) (behind view.here i) (item_known i view k st.0)) m.1 p.1 st.1)
@@ -229,24 +228,28 @@ module _ (Stands : ℕ → Sight → Type 0) where
       module _ (AtLabel : ℕ → Sight → Type 0) (AtAsserts : Sight → List Annotation → Type 0) (labels : (l : ℕ) (v : Sight) → Stands l v → AtLabel l v)
           (asserts : (view : AnnotationSight) → Known view → (annots : List Annotation) → AnnotationsTyped view annots → AllPlanned (in_annotations annots) → AtAsserts view.here annots) where
         mutual
-          statement_so : (a : Statement) (view : AnnotationSight) → Known view → StatementNoted view a → StatementPlaced AreRangedAsserts a → Sites view.here a → AllPlanned (in_statement a) → Throughout AtLabel AtAsserts view.here a
+          statement_so : (a : Statement) (view : AnnotationSight) → Known view → StatementNoted view a → StatementPlaced AreRangedAsserts AreRangedClauses a → Sites view.here a → AllPlanned (in_statement a) → Throughout AtLabel AtAsserts view.here a
           statement_so (Empty at) view k m p st h = tt
           statement_so (Eval at e) view k m p st h = tt
           statement_so (Block at items) view k m p st h = items_so items (inside_block view) (elsewhere view (inner view.here) k) m p st h
           statement_so (If at e a b) view k m p st h =
               (statement_so a view k m.0 p.0 st.0 (front (in_statement a) (in_else b) h), else_so b view k m.1 p.1 st.1 (back (in_statement a) (in_else b) h))
-          statement_so (While at annots e a) view k m p st h = statement_so a view k m.1 p.1 st (back (in_annotations annots) (in_statement a) h)
+          statement_so (While at annots e a) view k m p st h =
+              (asserts view k annots m.0 (front (in_annotations annots) (in_statement a) h), statement_so a view k m.1 p.1 st (back (in_annotations annots) (in_statement a) h))
           statement_so (Do at a e) view k m p st h = statement_so a view k m p st h
           statement_so (For at annots first e step a) view k m p st h =
-              statement_so a (inside_for view first) (elsewhere view (behind_first (inner view.here) first) k) m.1 p.2 st
-              (back (in_first first) (in_statement a) (back (in_annotations annots) (in_first first ++ in_statement a) h))
+              let there = inside_for view first in
+              let known = elsewhere view (behind_first (inner view.here) first) k in (
+                asserts there known annots m.0 (front (in_annotations annots) (in_first first ++ in_statement a) h),
+                statement_so a there known m.1 p.2 st (back (in_first first) (in_statement a) (back (in_annotations annots) (in_first first ++ in_statement a) h)),
+              )
           statement_so (Break at) view k m p st h = tt
           statement_so (Continue at) view k m p st h = tt
           statement_so (Return at e) view k m p st h = tt
           statement_so (Labelled at l a) view k m p st h = (labels l view.here st.0, statement_so a (with_label view l) (labelled view l k st.0) m p st.1 h)
           statement_so (Switch at e cases) view k m p st h = cases_so cases view k m p st h
 
-          cases_so : (cs : Cases) (view : AnnotationSight) → Known view → CasesNoted view cs → CasesPlaced AreRangedAsserts cs → CasesSites view.here cs → AllPlanned (in_cases cs) → ThroughoutCases AtLabel AtAsserts view.here cs
+          cases_so : (cs : Cases) (view : AnnotationSight) → Known view → CasesNoted view cs → CasesPlaced AreRangedAsserts AreRangedClauses cs → CasesSites view.here cs → AllPlanned (in_cases cs) → ThroughoutCases AtLabel AtAsserts view.here cs
           cases_so NoCase view k m p st h = tt
           cases_so (AnotherCase at v items rest) view k m p st h =
               let later = behind_items items view p.0 k st.0 in (
@@ -255,17 +258,18 @@ module _ (Stands : ℕ → Sight → Type 0) where
                     (cases_so rest (behind_case view items) later.known m.1 p.2 (subst (λ s. CasesSites s rest) (sym later.here) st.1) (back (in_items items) (in_cases rest) h)),
               )
 
-          else_so : (b : ElsePart) (view : AnnotationSight) → Known view → ElseNoted view b → ElsePlaced AreRangedAsserts b → ElseSites view.here b → AllPlanned (in_else b) → ThroughoutElse AtLabel AtAsserts view.here b
+          else_so : (b : ElsePart) (view : AnnotationSight) → Known view → ElseNoted view b → ElsePlaced AreRangedAsserts AreRangedClauses b → ElseSites view.here b → AllPlanned (in_else b) → ThroughoutElse AtLabel AtAsserts view.here b
           else_so NoElse view k m p st h = tt
           else_so (Else a) view k m p st h = statement_so a view k m p st h
 
-          item_so : (i : BlockItem) (view : AnnotationSight) → Known view → ItemNoted view i → ItemPlaced AreRangedAsserts i → ItemSites view.here i → AllPlanned (in_item i) → ThroughoutItem AtLabel AtAsserts view.here i
+          item_so : (i : BlockItem) (view : AnnotationSight) → Known view → ItemNoted view i → ItemPlaced AreRangedAsserts AreRangedClauses i → ItemSites view.here i → AllPlanned (in_item i) → ThroughoutItem AtLabel AtAsserts view.here i
           item_so (Declare ds) view k m p st h = tt
           item_so (Specify at t) view k m p st h = tt
           item_so (Run a) view k m p st h = statement_so a view k m p st h
           item_so (Asserts annots) view k m p st h = asserts view k annots m h
 
-          pub items_so : (is : BlockItems) (view : AnnotationSight) → Known view → ItemsNoted view is → ItemsPlaced AreRangedAsserts is → ItemsSites view.here is → AllPlanned (in_items is) → ThroughoutItems AtLabel AtAsserts view.here is
+          pub items_so : (is : BlockItems) (view : AnnotationSight) → Known view → ItemsNoted view is → ItemsPlaced AreRangedAsserts AreRangedClauses is → ItemsSites view.here is → AllPlanned (in_items is)
+              → ThroughoutItems AtLabel AtAsserts view.here is
           items_so NoItem view k m p st h = tt
           items_so (Then i rest) view k m p st h = (
             item_so i view k m.0 p.0 st.0 (front (in_item i) (in_items rest) h),
@@ -274,12 +278,17 @@ module _ (Stands : ℕ → Sight → Type 0) where
 
       -- ---- what asserts read
 
+      unbound : (view : AnnotationSight) → Known view → BindersSorted view.binders []
+      unbound view k = λ x i. absurd (subst (λ bs. IsBound bs x) k.binders i)
+
       clause_found : (view : AnnotationSight) → Known view → (scope : Scope) → AreFound view.here.entities scope → (c : ClauseBody) → ClauseTyped view c → AllPlanned (in_clause c) → ClauseFound ks scope c
       clause_found view k scope found (Raw f) q h = absurd q
       clause_found view k scope found (Holds p) q h =
           let sorted : ResultSorted view.clause [] = subst (λ c. ResultSorted c []) (sym k.body) tt in
-          typed_predicates_are_found view scope ks [] found sorted p h q
-      clause_found view k scope found (logic.Value t) q h = absurd q
+          typed_predicates_are_found view scope ks [] found sorted (unbound view k) p (inl (subst NoNames (sym k.body) (λ t x i. i))) h q
+      clause_found view k scope found (logic.Value t) q h =
+          let sorted : ResultSorted view.clause [] = subst (λ c. ResultSorted c []) (sym k.body) tt in
+          typed_terms_are_found view scope ks [] found sorted (unbound view k) t h q.0 q.1
       clause_found view k scope found (Behaviors names) q h = absurd q
 
       annotations_found : (view : AnnotationSight) → Known view → (scope : Scope) → AreFound view.here.entities scope → (annots : List Annotation) → AnnotationsTyped view annots → AllPlanned (in_annotations annots)
@@ -288,7 +297,8 @@ module _ (Stands : ℕ → Sight → Type 0) where
       annotations_found view k scope found (a ∷ rest) q h =
           (clause_found view k scope found a.body q.0 (front (in_clause a.body) (in_annotations rest) h), annotations_found view k scope found rest q.1 (back (in_clause a.body) (in_annotations rest) h))
 
-      pub items_kept : ((l : ℕ) (v : Sight) → Stands l v → LabelKept ks l v) → (is : BlockItems) (view : AnnotationSight) → Known view → ItemsNoted view is → ItemsPlaced AreRangedAsserts is → ItemsSites view.here is → AllPlanned (in_items is)
+      pub items_kept : ((l : ℕ) (v : Sight) → Stands l v → LabelKept ks l v) → (is : BlockItems) (view : AnnotationSight) → Known view → ItemsNoted view is → ItemsPlaced AreRangedAsserts AreRangedClauses is → ItemsSites view.here is
+          → AllPlanned (in_items is)
           → ItemsKept ks view.here is
       items_kept labels is view k m p st h = items_so (LabelKept ks) (AssertsKept ks) labels (λ view k annots q planned scope found. annotations_found view k scope found annots q planned) is view k m p st h
 

@@ -8,6 +8,7 @@ pub mod Definitions
 pub mod Grown
 pub mod OwnRegisters
 pub mod ContractBodies
+pub mod ClauseCode
 -- expressions; the relation between a call and its translation, and values, are of `c_simulation`
 pub mod Own
 pub mod Annotated
@@ -39,6 +40,7 @@ pub mod Deaths
 pub mod Births
 pub mod Blocks
 pub mod Loops
+pub mod Variants
 pub mod Switches
 pub mod Declared
 pub mod Sight
@@ -87,6 +89,7 @@ pub mod Tables
 pub mod ValidBlocks
 pub mod Writable
 pub mod ValidAsserts
+pub mod ValidClauses
 pub mod Keepable
 pub mod KeepablePlans
 pub mod KeptRegisters
@@ -103,4 +106,5 @@ pub mod ProgramValidity
 -- examples, by computation
 mod WorkedMembers
 mod WorkedTranslations
+mod WorkedTurns
 mod WorkedContracts

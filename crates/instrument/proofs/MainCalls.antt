@@ -1,6 +1,6 @@
 -- The call of main with a contract: what the contract asks at the beginning, the body, which gives 0 at its closing brace (C99 5.1.2.2.3), what the contract
 -- asks at the end, and the end of the run.
-use Rattle.std.proofs.Common.{◌≡◌, ◌⊎◌, inl, inr, ℕ, suc, ◌+◌, ◌<◌, ◌≤◌, ℤ, pos, Bool, true, false, List, [], ◌∷◌, ◌++◌, length, append_assoc, Option, Some, None, slice_get, slice_set, refl, sym, ap, ◌∙◌, subst, arith}
+use Rattle.std.proofs.Common.{◌≡◌, ◌⊎◌, inl, inr, ℕ, ◌+◌, ◌<◌, ◌≤◌, ℤ, pos, Bool, true, List, [], ◌++◌, length, append_assoc, Option, Some, None, slice_get, slice_set, refl, sym, ap, ◌∙◌, subst, arith}
 use Rattle.std.proofs.lemmas.List.{append-nil}
 use Rattle.c_syntax.specs.declared.place.Place.{Place}
 use Rattle.c_syntax.specs.declared.types.CInt.TheVariants.{I32}
@@ -8,8 +8,8 @@ use Rattle.c_syntax.specs.Ctypes.{int_type}
 use Rattle.c_syntax.specs.Programs.{FunctionContract, Function}
 use Rattle.c_model.specs.ContractChecks.{all_checked, all_hold, entry_checks, leave_checks, result_is, entry}
 use Rattle.c_model.specs.Integers.{fits}
-use Rattle.c_model.specs.Memory.{Value, Integer, kill_from}
-use Rattle.c_model.specs.Meaning.{Ran, after_main, ran, ran_to}
+use Rattle.c_model.specs.Memory.{Value, Integer}
+use Rattle.c_model.specs.Meaning.{after_main, ran, ran_to}
 use Rattle.c_model.specs.MonitoredRuns.{machine_end}
 use Rattle.c_model.specs.MonitoredRuns as machine
 use Rattle.c_model.specs.Reports.{Extends, agrees_at, Agrees}
@@ -21,19 +21,18 @@ use Rattle.mon_syntax.specs.Registers.{Bindings}
 use Rattle.mon_syntax.specs.Meaning.{Result, Done, Stops, Flow, Next, Goes, writes, then_do, at_next, at_label, at_return, exec_all, exit_of, with_value}
 use Rattle.mon_syntax.specs.Meaning as monitored
 use Rattle.mon_syntax.specs.BlockMemory.{over_blocks, integer_of}
-use Rattle.mon_syntax.specs.LiveBlocks.{LiveBlock, live_in}
 use Rattle.mon_syntax.specs.Trees.{MonStatements, Then, Labelled}
 use Rattle.mon_syntax.specs.Trees as tree
 use Rattle.c_effects.specs.Expressions.{before, one, set}
 use Rattle.instrument.specs.Translation.{Spot, outermost}
-use Rattle.c_simulation.specs.Keeping.{Kept, StandBelow}
+use Rattle.c_simulation.specs.Keeping.{StandBelow}
 use Rattle.c_simulation.specs.Labels.{leave_label}
 use Rattle.c_simulation.specs.SameRegisters.{Stays}
 use Rattle.c_simulation.specs.Standing.{Target, Did, Setting, runs, Keeps, Beside}
-use Rattle.c_simulation.specs.Following.{Passes, IsResult, HoldsResult, Follows, GoesOn, Breaks, Continues, IsLeft, IsOver, IsUndefined, written}
+use Rattle.c_simulation.specs.Following.{Passes, IsResult, Follows, GoesOn, Breaks, Continues, IsLeft, IsOver, IsUndefined, written}
 use Rattle.c_simulation.proofs.Results.{writes_none, written_writes, written_then, before_is, one_is}
 use Rattle.c_simulation.proofs.Evaluating.{set_runs}
-use Rattle.c_simulation.proofs.Registers.{get-set_same, same_all, keeps_same, keeps_set, stays_same, stays_set, stays_trans}
+use Rattle.c_simulation.proofs.Registers.{get-set_same, keeps_same, keeps_set, stays_set, stays_trans}
 use Rattle.c_simulation.proofs.Following.{later_same, passes_later, passes_trans}
 use Rattle.instrument.proofs.Blocks.{Meets, meets_after}
 use Rattle.instrument.proofs.CallEnds.{at_body}

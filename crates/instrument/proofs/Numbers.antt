@@ -291,7 +291,8 @@ module _ (p : TranslationUnit) where
           else_can_declare y s r cut.middle high living same (λ n from to. free n (omega (arith, from, in_bounds low cut.middle (numbers_in (declared_within x)) cut.front)) to) q.2 cut.back
               (all_narrower low cut.middle high high living (in_bounds low cut.middle (numbers_in (declared_within x)) cut.front) (omega arith) o),
         )
-    can_declare (While at annots e x) s r low high living same free q b o = can_declare x s (in_loop r) low high living same free q.1 b o
+    can_declare (While at annots e x) s r low high living same free q b o =
+        (outside_absent_all (declared_within x) low high living b o, can_declare x s (in_loop r) low high living same free q.1 b o)
     can_declare (Do at x e) s r low high living same free q b o = (outside_absent_all (declared_within x) low high living b o, can_declare x s (in_loop r) low high living same free q.0 b o)
     can_declare (For at annots first e step x) s r low high living same free q b o =
         let cut = parted_in low high (declared_in_first first) (declared_within x) b in

@@ -3,6 +3,7 @@ use Rattle.std.proofs.Common.{◌≡◌, ℕ, ◌≤◌, true, List, [], ◌∷�
 use Rattle.std.proofs.lemmas.List.{append-nil}
 use Rattle.c_syntax.specs.Statements.{Statement, Cases, ElsePart, BlockItems}
 use Rattle.c_syntax.specs.Logic.{ClauseBody, Holds, Annotation}
+use Rattle.c_syntax.specs.Logic as logic
 use Rattle.c_syntax.specs.Programs.{FunctionContract, TranslationUnit}
 use Rattle.annot_simulation.specs.ContractCode.{behind_entry, behind_leave}
 use Rattle.annot_simulation.specs.Held.{Held}
@@ -17,7 +18,7 @@ use Rattle.c_simulation.specs.Following.{Follows, GoesOn}
 use Rattle.c_simulation.specs.SameRegisters.{Stays}
 use Rattle.c_simulation.specs.Keeping.{Kept}
 use Rattle.c_simulation.specs.Standing.{Target, Did, Setting, runs, Keeps, Here, Standing, Beside}
-use Rattle.annot_simulation.specs.Does.{PredicateFound, SideFound}
+use Rattle.annot_simulation.specs.Does.{PredicateFound, SideFound, TermFound}
 use Rattle.c_model.specs.ContractChecks.{entry_checks, leave_checks}
 use Rattle.c_model.specs.Logic.{Environment}
 use Rattle.c_model.specs.MonitoredRuns.{Spent}
@@ -52,13 +53,14 @@ KeptAt (k ∷ ks) There l =
 -- what an annotation reads is in sight where it stands, and its terms at labels are kept
 abbrev pub ClauseFound : List Kept → Scope → ClauseBody → Type 0
 ClauseFound ks scope (Holds p) = PredicateFound ks scope [] p
+ClauseFound ks scope (logic.Value t) = TermFound ks scope [] t
 ClauseFound ks scope _ = ⊥
 
 abbrev pub AnnotationsFound : List Kept → Scope → List Annotation → Type 0
 AnnotationsFound ks scope [] = Unit {0}
 AnnotationsFound ks scope (a ∷ rest) = ClauseFound ks scope a.body × AnnotationsFound ks scope rest
 
--- so it is at each label and each assert of a statement, where this is in sight
+-- so it is at each label, each assert and each loop's annotations of a statement, where this is in sight
 abbrev pub LabelKept : List Kept → ℕ → Sight → Type 0
 LabelKept ks l s = KeptAt ks (AreFound s.entities) (Some l)
 
@@ -128,7 +130,8 @@ stands_apart w n h low bound names held seen regs from t st b = record {
 }
 
 module _ (w : Setting) (n : ℕ) (ordered : Ascend w.plan_from w.plan w.plan_to) (h : Here) (There : Scope → Type 0) (low : ℕ) (bound : Bindings) (l : Option ℕ) (kept : KeptAt w.plan There l) (rs : List MonType) (behind : low ≤ length rs)
-    (room : length (behind_snapshot w.unit bound l rs w.plan) ≤ w.registers) (regs : List Value) (from : State) (t : Target) (found : There from.scope) (st : Standing w h low bound regs from) (b : Beside w from.store from t) where
+    (room : length (behind_snapshot w.unit bound l rs w.plan) ≤ w.registers) (regs : List Value) (from : State) (t : Target) (few : from.steps ≤ n) (found : There from.scope) (st : Standing w h low bound regs from)
+    (b : Beside w from.store from t) where
   abbrev here : code.Setting
   here = judging w n low bound [] [] [] from t regs
 
@@ -137,7 +140,8 @@ module _ (w : Setting) (n : ℕ) (ordered : Ascend w.plan_from w.plan w.plan_to)
 
   did : Passed here w.plan_to w.plan_from code_here rs regs (GiveTerms w.plan (marked l from ∷ from.marks))
   did =
-      snapshots_keep here w.plan_from w.plan_to (stands_apart w n h low bound [] [] [] regs from t st b) (ranges_hold [] [] from st.bounded st.kept.keeps.past) l w.plan (are_kept w.plan here There l found kept) ordered from.marks rs behind
+      snapshots_keep here w.plan_from w.plan_to (stands_apart w n h low bound [] [] [] regs from t st b) (ranges_hold from st.bounded st.kept.keeps.past) (omega (arith, b.steps, few)) l w.plan
+      (are_kept w.plan here There l found kept) ordered from.marks rs behind
       (omega (arith, st.kept.below, behind)) (omega (arith, room, st.registers)) st.kept.keeps.terms
 
   pub label_passes : IsPassed w low regs l from t (runs w n t code_here regs)

@@ -15,7 +15,7 @@ use Rattle.instrument.specs.Translation.{first_flag, index_of_main, translated}
 use Rattle.instrument.proofs.Annotated.{AreAnnotated, IsAnnotated, are_annotated}
 use Rattle.instrument.proofs.KnownContracts.{functions_stand}
 use Rattle.instrument.proofs.Starts.{pointers}
-use Rattle.instrument.proofs.RangedTrees.{AreRangedAsserts, functions_ranged}
+use Rattle.instrument.proofs.RangedTrees.{AreRangedAsserts, AreRangedClauses, functions_ranged}
 use Rattle.c_simulation.specs.Standing.{AreOctets}
 use Rattle.instrument.proofs.FileScope.{AreTexts}
 use Rattle.instrument.proofs.Resolved.{resolved, resolved_asks}
@@ -33,7 +33,7 @@ texts_are [] h = tt
 texts_are (x ∷ xs) h = (octets x.bytes h.0, texts_are xs h.1)
 
 module _ (p : TranslationUnit) (q : IsProgram p) where
-  part_of : (f : Function) → FunctionInPlace p f → IsNumbered (items_of_file p) 0 4294967295 f → FunctionRead AreRangedAsserts f → (is_definition f ≡ true → BodyHasNumbers f.body) → IsAnnotated p f
+  part_of : (f : Function) → FunctionInPlace p f → IsNumbered (items_of_file p) 0 4294967295 f → FunctionRead AreRangedAsserts AreRangedClauses f → (is_definition f ≡ true → BodyHasNumbers f.body) → IsAnnotated p f
       → (is_definition f ≡ true → ContractHasNumbers (first_flag f) f.contract) → Part p f
   part_of f here n read letters annotated clauses = record {
     sight = here.sight;
@@ -55,7 +55,7 @@ module _ (p : TranslationUnit) (q : IsProgram p) where
     asks = λ s names texts u t es c. resolved_asks p s (names ∙ here.place.names) (texts ∙ here.place.texts) u t es c;
   }
 
-  parts_of : (main k : ℕ) (front fs : List Function) → front ++ fs ≡ p.funcs → FunctionsRead AreRangedAsserts fs → AreAnnotated p fs → FunctionsHaveNumbers p main k fs → Parts p fs
+  parts_of : (main k : ℕ) (front fs : List Function) → front ++ fs ≡ p.funcs → FunctionsRead AreRangedAsserts AreRangedClauses fs → AreAnnotated p fs → FunctionsHaveNumbers p main k fs → Parts p fs
   parts_of main k front [] is read annotated numbers = tt
   parts_of main k front (f ∷ fs) is read annotated numbers = (
     part_of f (function_in_place p q front fs f is) (function_is_numbered p q.numbered front fs f is) read.0 (λ e. (numbers.0 e).body) annotated.0 (λ e. (numbers.0 e).contract),

@@ -18,7 +18,7 @@ use Rattle.c_model.specs.FullExpressions.{EachDeclared, EachInBody, EachInFuncti
 use Rattle.c_model.specs.ReadTree.{BodyRead, FunctionsRead}
 use Rattle.c_model.specs.UnrangedPrograms.{FunctionsRanged}
 use Rattle.c_model.specs.AnnotationTyping.{in_body}
-use Rattle.instrument.proofs.RangedTrees.{AreRangedAsserts, functions_ranged}
+use Rattle.instrument.proofs.RangedTrees.{AreRangedAsserts, AreRangedClauses, functions_ranged}
 use Rattle.instrument.proofs.Annotated.{AreAnnotated, IsAnnotated, are_annotated}
 use Rattle.instrument.proofs.KeepablePlans.{is_planned}
 use Rattle.c_model.specs.AcceptedPrograms.{AreDefined, IsProgram}
@@ -100,7 +100,7 @@ module _ (p : TranslationUnit) (q : IsProgram p) where
 
   -- ---- functions
 
-  definition_typed : (front : Types) (f : Function) → FunctionInPlace p f → IsNumbered (items_of_file p) 0 4294967295 f → FunctionNamed p.names f → BodyRead AreRangedAsserts f.body → EachInBody IsSmall f.body
+  definition_typed : (front : Types) (f : Function) → FunctionInPlace p f → IsNumbered (items_of_file p) 0 4294967295 f → FunctionNamed p.names f → BodyRead AreRangedAsserts AreRangedClauses f.body → EachInBody IsSmall f.body
       → EachInBody (TypesSmall p.structs) f.body → IsAnnotated p f
       → is_definition f ≡ true → FunctionHasNumbers p front f → DefinitionTyped p front f
   definition_typed front f here n named formed small types annotated definition numbers = by f.body refl
@@ -113,7 +113,7 @@ module _ (p : TranslationUnit) (q : IsProgram p) where
 
       block : (at : Place) (items : BlockItems) → f.body ≡ Some (Block at items) → DefinitionTyped p front f
       block at items e =
-          let placed : BodyRead AreRangedAsserts (Some (Block at items)) = subst (BodyRead AreRangedAsserts) e formed in
+          let placed : BodyRead AreRangedAsserts AreRangedClauses (Some (Block at items)) = subst (BodyRead AreRangedAsserts AreRangedClauses) e formed in
           let light : EachInBody IsSmall (Some (Block at items)) = subst (EachInBody IsSmall) e small in
           let few : EachInBody (TypesSmall p.structs) (Some (Block at items)) = subst (EachInBody (TypesSmall p.structs)) e types in
           let typed : BodyTyped sight f.result (Some (Block at items)) = subst (BodyTyped sight f.result) e here.typed.body in
@@ -146,18 +146,18 @@ module _ (p : TranslationUnit) (q : IsProgram p) where
       by : (o : Option Statement) → f.body ≡ o → DefinitionTyped p front f
       by None e = absurd cc
       by (Some (Block at items)) e = block at items e
-      by (Some (Empty at)) e = absurd (subst (BodyRead AreRangedAsserts) e formed)
-      by (Some (Eval at x)) e = absurd (subst (BodyRead AreRangedAsserts) e formed)
-      by (Some (If at x a b)) e = absurd (subst (BodyRead AreRangedAsserts) e formed)
-      by (Some (While at annots x a)) e = absurd (subst (BodyRead AreRangedAsserts) e formed)
-      by (Some (Do at a x)) e = absurd (subst (BodyRead AreRangedAsserts) e formed)
-      by (Some (For at annots first x step a)) e = absurd (subst (BodyRead AreRangedAsserts) e formed)
-      by (Some (Break at)) e = absurd (subst (BodyRead AreRangedAsserts) e formed)
-      by (Some (Continue at)) e = absurd (subst (BodyRead AreRangedAsserts) e formed)
-      by (Some (Return at x)) e = absurd (subst (BodyRead AreRangedAsserts) e formed)
-      by (Some _) e = absurd (subst (BodyRead AreRangedAsserts) e formed)
+      by (Some (Empty at)) e = absurd (subst (BodyRead AreRangedAsserts AreRangedClauses) e formed)
+      by (Some (Eval at x)) e = absurd (subst (BodyRead AreRangedAsserts AreRangedClauses) e formed)
+      by (Some (If at x a b)) e = absurd (subst (BodyRead AreRangedAsserts AreRangedClauses) e formed)
+      by (Some (While at annots x a)) e = absurd (subst (BodyRead AreRangedAsserts AreRangedClauses) e formed)
+      by (Some (Do at a x)) e = absurd (subst (BodyRead AreRangedAsserts AreRangedClauses) e formed)
+      by (Some (For at annots first x step a)) e = absurd (subst (BodyRead AreRangedAsserts AreRangedClauses) e formed)
+      by (Some (Break at)) e = absurd (subst (BodyRead AreRangedAsserts AreRangedClauses) e formed)
+      by (Some (Continue at)) e = absurd (subst (BodyRead AreRangedAsserts AreRangedClauses) e formed)
+      by (Some (Return at x)) e = absurd (subst (BodyRead AreRangedAsserts AreRangedClauses) e formed)
+      by (Some _) e = absurd (subst (BodyRead AreRangedAsserts AreRangedClauses) e formed)
 
-  definitions_typed : (main k : ℕ) (front fs : List Function) → front ++ fs ≡ p.funcs → FunctionsNamed p.names fs → FunctionsRead AreRangedAsserts fs → EachInFunctions IsSmall fs → EachInFunctions (TypesSmall p.structs) fs
+  definitions_typed : (main k : ℕ) (front fs : List Function) → front ++ fs ≡ p.funcs → FunctionsNamed p.names fs → FunctionsRead AreRangedAsserts AreRangedClauses fs → EachInFunctions IsSmall fs → EachInFunctions (TypesSmall p.structs) fs
       → AreAnnotated p fs → FunctionsHaveNumbers p main k fs → DefinitionsTyped p main k fs
   definitions_typed main k front [] is named formed small types annotated numbers = tt
   definitions_typed main k front (f ∷ fs) is named formed small types annotated numbers = (

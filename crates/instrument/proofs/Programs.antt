@@ -12,7 +12,7 @@ use Rattle.c_model.specs.TypedTrees.{FunctionTyped, Calls}
 use Rattle.c_model.specs.Formed.{declared_in_body}
 use Rattle.c_model.proofs.TypedParts.{and_true}
 use Rattle.c_model.specs.ReadTree.{FunctionRead}
-use Rattle.instrument.proofs.RangedTrees.{AreRangedAsserts}
+use Rattle.instrument.proofs.RangedTrees.{AreRangedAsserts, AreRangedClauses}
 use Rattle.instrument.specs.Limits.{BodyHasNumbers, ContractHasNumbers}
 use Rattle.instrument.specs.Translation.{first_flag, function_of, functions_from, index_of_main}
 use Rattle.instrument.proofs.Annotated.{IsAnnotated}
@@ -39,7 +39,7 @@ pub record Part (p : TranslationUnit) (f : Function) : Type 0 where
   pub found : AreFound sight.entities (scope_for (numbers_in p.globals))
   pub typed : FunctionTyped sight f
   pub noted : BodyNoted (in_body (with_parameters (inner sight) f.params)) f.body
-  pub read : FunctionRead AreRangedAsserts f
+  pub read : FunctionRead AreRangedAsserts AreRangedClauses f
   pub letters : is_definition f ≡ true → BodyHasNumbers f.body
   pub annotated : IsAnnotated p f
   pub clauses : is_definition f ≡ true → ContractHasNumbers (first_flag f) f.contract

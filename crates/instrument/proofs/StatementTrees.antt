@@ -9,13 +9,14 @@ use Rattle.c_syntax.specs.declared.expression.Expr.{Expr}
 use Rattle.c_syntax.specs.declared.statement.Item.{Item}
 use Rattle.c_syntax.specs.declared.statement.Stmt.{Stmt}
 use Rattle.c_syntax.specs.declared.statement.StmtKind as code
-use Rattle.c_syntax.specs.Logic.{Annotation, plain_annot}
+use Rattle.c_syntax.specs.Logic.{Annotation, LogicTerm, plain_annot}
 use Rattle.c_syntax.specs.Expressions.{Expression, plain_expr}
 use Rattle.c_syntax.specs.Statements.{plain_else_part}
-use Rattle.c_syntax.specs.Statements.{Declaration, Statement, Block, If, Do, For, ElsePart, ForFirst, NoFirst, First, Declare, Specify, Run, Asserts, plain_items, plain_stmt, plain_stmt_kind}
+use Rattle.c_syntax.specs.Statements.{Declaration, Statement, Block, If, While, Do, For, ElsePart, ForFirst, NoFirst, First, Declare, Specify, Run, Asserts, plain_items, plain_stmt, plain_stmt_kind}
 use Rattle.c_syntax.proofs.Rows.{block_is}
 use Rattle.c_model.specs.Meaning.{declared_in, declared_first}
-use Rattle.mon_syntax.specs.Registers.{Names, next_register}
+use Rattle.c_model.specs.Predicates.{variant}
+use Rattle.mon_syntax.specs.Registers.{Names, RegisterTable, next_register, with_kinds, with_table}
 use Rattle.mon_syntax.specs.declared.tree.MonStmt.{MonStmt}
 use Rattle.mon_syntax.specs.Trees.{MonExpression, MonStatement, MonStatements, NoStatement, Labelled, Loop, plain_stmts}
 use Rattle.mon_syntax.specs.Trees as tree
@@ -25,9 +26,11 @@ use Rattle.c_effects.specs.Effects.{any_temporaries}
 use Rattle.c_effects.specs.Full.{act_takes, takes}
 use Rattle.c_effects.specs.Named.{unit_of, with_registers}
 use Rattle.c_evaluation.specs.Evaluated.{act_if_any_by, condition_result_by, prepare_by}
-use Rattle.c_effects.proofs.Sequences.{before_assoc}
-use Rattle.instrument.specs.Options.{after, behind_first, births_by, else_part_by, entering, first_part_by, items_of_first, plain_first_part, statement_by, test_by, test_if_any_by, turns_by, with_blocks}
-use Rattle.instrument.specs.Translation.{act_if_any, all_live, Spot, alive, in_loop, with_variables}
+use Rattle.c_effects.proofs.Sequences.{before_assoc, before_none}
+use Rattle.instrument.specs.Options.{after, behind_first, births_by, else_part_by, entering, first_part_by, items_of_first, plain_first_part, statement_by, test_by, with_blocks}
+use Rattle.instrument.specs.LoopClauses.{behind_variant, variant_compared}
+use Rattle.instrument.specs.LoopForms.{KeptValue, after_turn_by, before_body_by, behind_compared_by, behind_invariants_by, behind_variant_by, compared_by, front_by, kept_in, turn_by, turns_by, value_by}
+use Rattle.instrument.specs.Translation.{act_if_any, after_invariants, after_statement, all_live, before_body, compared_of, kept_of, Spot, alive, in_loop, statement, with_variables}
 use Rattle.c_simulation.specs.Keeping.{Kept}
 use Rattle.c_simulation.specs.Labels.{end_label, next_label}
 use Rattle.instrument.proofs.DeclarationCode.{born_front}
@@ -49,10 +52,11 @@ for_kind : (at : Place) (annots : Vec Annot Global) (first : Option Item) (e ste
 for_kind at annots None e step a = refl
 for_kind at annots (Some i) e step a = refl
 
-pub for_stmt : (s : Stmt) (annots : Vec Annot Global) (first : Option Item) (e step : Option Expr) (a : Stmt) (x : Stmt) → s.kind.value ≡ code.For annots first e step a → x ≡ a
-    → For s.place (map plain_annot annots.items) (plain_first_part first) (option_map plain_expr e) (option_map plain_expr step) (plain_stmt x) ≡ plain_stmt s
-for_stmt s annots first e step a x is same =
-    ap (λ y. For s.place (map plain_annot annots.items) (plain_first_part first) (option_map plain_expr e) (option_map plain_expr step) (plain_stmt y)) same
+pub for_stmt : (s : Stmt) (annots : Vec Annot Global) (l : List Annot) (first : Option Item) (e step : Option Expr) (a : Stmt) (x : Stmt) → s.kind.value ≡ code.For annots first e step a → l ≡ annots.items → x ≡ a
+    → For s.place (map plain_annot l) (plain_first_part first) (option_map plain_expr e) (option_map plain_expr step) (plain_stmt x) ≡ plain_stmt s
+for_stmt s annots l first e step a x is these same =
+    ap (λ y. For s.place (map plain_annot l) (plain_first_part first) (option_map plain_expr e) (option_map plain_expr step) (plain_stmt y)) same
+    ∙ ap (λ z. For s.place (map plain_annot z) (plain_first_part first) (option_map plain_expr e) (option_map plain_expr step) (plain_stmt a)) these
     ∙ sym (ap (plain_stmt_kind s.place) is ∙ for_kind s.place annots first e step a)
 
 -- ---- their code
@@ -112,26 +116,90 @@ module _ (ks : List Kept) (n n1 n2 : Names) (spot : Spot) (t t2 : MonStatements)
       let behind_at = behind_is ∙ (λ i. before (round_is i) (test_by (names i) (inner_is i) e)) in
       last ∙ (λ i. before t (one (Labelled (one (Loop (front_is i) (behind_at i))) (end_label (inner_is i)))))
 
-  pub turns_code : (e step : Option Expression) (a : Statement) (inner : ℕ) (front round behind : MonStatements) → inner ≡ spot.levels + 1 → front ≡ test_if_any_by n inner e → n1 ≡ with_registers (any_temporaries (takes (unit_of n)) e) n
-      → round ≡ one (Labelled (statement_by ks n1 (in_loop spot) a) (next_label (spot.levels + 1))) → n2 ≡ after ks a n1 → behind ≡ before round (act_if_any_by n2 step)
-      → t2 ≡ before t (one (Labelled (one (Loop front behind)) (end_label inner))) → t2 ≡ before t (turns_by ks n spot e step a)
-  turns_code e step a inner front round behind inner_is front_is names round_is names2 behind_is last =
-      let second : n2 ≡ after ks a (with_registers (any_temporaries (takes (unit_of n)) e) n) = names2 ∙ ap (after ks a) names in
-      let front_at = front_is ∙ ap (λ k. test_if_any_by n k e) inner_is in
-      let round_at = round_is ∙ ap (λ m. one (Labelled (statement_by ks m (in_loop spot) a) (next_label (spot.levels + 1)))) names in
-      let tested = with_registers (any_temporaries (takes (unit_of n)) e) n in
-      let start = one (Labelled (statement_by ks tested (in_loop spot) a) (next_label (spot.levels + 1))) in
-      let behind_at = behind_is ∙ (λ i. before (round_at i) (act_if_any_by (second i) step)) ∙ ap (before start) (acted_any (after ks a tested) step) in
+-- ---- the annotations of loops
+
+-- the value that was kept is that of the variant, and so the registers behind its comparison are its own
+module _ (ks : List Kept) (n : Names) (b d : RegisterTable) where
+  compared_is : (o : Option (Annotation × LogicTerm))
+      → compared_by ks (with_table d n) (option_map (λ v. (v, (value_by ks (with_table b n) v).value)) o) ≡ variant_compared (unit_of n) b.bound d.bound ks b.kinds d.kinds o
+  compared_is None = refl
+  compared_is (Some v) = refl
+
+  behind_is : (o : Option (Annotation × LogicTerm)) → behind_compared_by ks (option_map (λ v. (v, (value_by ks (with_table b n) v).value)) o) (with_table d n) ≡ with_table (record d { kinds = behind_variant (unit_of n) d.bound ks d.kinds o }) n
+  behind_is None = refl
+  behind_is (Some v) = refl
+
+-- registers that take nothing
+nothing_taken : (n : Names) → n ≡ with_registers [] n
+nothing_taken n = ap (λ rs. with_table (record n.table { kinds = rs }) n) (sym (append-nil n.table.kinds))
+
+-- the turns of a `while` and of a `for`: what stands before the step, the turn up to the end of its body, its own step, and the comparison
+module _ (ks : List Kept) (n n1 n2 n3 : Names) (annots : List Annotation) (e step : Option Expression) (a : Statement) (kept : Option KeptValue)
+    (names1 : n1 ≡ with_registers (any_temporaries (takes (unit_of n)) e) (behind_invariants_by ks annots n)) (kept_is : kept ≡ kept_in ks n1 annots) (names2 : n2 ≡ after ks a (behind_variant_by ks annots n1))
+    (names3 : n3 ≡ with_registers (any_temporaries (act_takes (unit_of n2)) step) n2) where
+  abbrev before_variant : RegisterTable
+  before_variant = with_kinds (any_temporaries (takes (unit_of n)) e) (after_invariants (unit_of n) ks annots n.table)
+
+  abbrev in_body : RegisterTable
+  in_body = before_body (unit_of n) ks annots e n.table
+
+  abbrev behind_body : RegisterTable
+  behind_body = after_statement (unit_of n) ks a in_body
+
+  abbrev behind_step : RegisterTable
+  behind_step = with_kinds (any_temporaries (act_takes (unit_of n)) step) behind_body
+
+  second : n2 ≡ with_table behind_body n
+  second = names2 ∙ ap (λ m. after ks a (behind_variant_by ks annots m)) names1
+
+  third : n3 ≡ with_table behind_step n
+  third = names3 ∙ ap (λ (m : Names). with_registers (any_temporaries (act_takes (unit_of m)) step) m) second
+
+  kept_at : kept ≡ kept_in ks (with_table before_variant n) annots
+  kept_at = kept_is ∙ ap (λ m. kept_in ks m annots) names1
+
+  -- the names behind them
+  pub turns_names : (n4 : Names) → n4 ≡ behind_compared_by ks kept n3 → n4 ≡ after_turn_by ks annots step (after ks a (before_body_by ks annots e n))
+  turns_names n4 names4 = names4 ∙ (λ i. behind_compared_by ks (kept_at i) (third i)) ∙ behind_is ks n before_variant behind_step (variant annots)
+
+  pub turns_code : (spot : Spot) (t t2 : MonStatements) (inner : ℕ) (front turn acted behind : MonStatements) → inner ≡ spot.levels + 1 → front ≡ front_by ks n inner annots e → turn ≡ turn_by ks n1 spot annots a
+      → acted ≡ before turn (act_if_any_by n2 step) → behind ≡ before acted (compared_by ks n3 kept) → t2 ≡ before t (one (Labelled (one (Loop front behind)) (end_label inner))) → t2 ≡ before t (turns_by ks n spot annots e step a)
+  turns_code spot t t2 inner front turn acted behind inner_is front_is turn_is acted_is behind_code last =
+      let p = unit_of n in
+      let body = one (Labelled (statement p ks (in_loop spot) in_body a) (next_label (spot.levels + 1))) in
+      let keep = kept_of p ks annots n.table e in
+      let act = act_if_any p behind_body.bound behind_body.kinds step in
+      let compare = compared_of p ks annots n.table e behind_body step in
+      let front_at : front ≡ front_by ks n (spot.levels + 1) annots e = front_is ∙ ap (λ k. front_by ks n k annots e) inner_is in
+      let turn_at : turn ≡ before keep body = turn_is ∙ ap (λ m. turn_by ks m spot annots a) names1 in
+      let act_at : act_if_any_by n2 step ≡ act = ap (λ m. act_if_any_by m step) second ∙ acted_any (with_table behind_body n) step in
+      let compare_at : compared_by ks n3 kept ≡ compare = (λ i. compared_by ks (third i) (kept_at i)) ∙ compared_is ks n before_variant behind_step (variant annots) in
+      let acted_at : acted ≡ before (before keep body) act = acted_is ∙ (λ i. before (turn_at i) (act_at i)) in
+      let behind_at : behind ≡ before keep (before body (before act compare)) =
+      behind_code ∙ (λ i. before (acted_at i) (compare_at i)) ∙ before_assoc (before keep body) act compare ∙ before_assoc keep body (before act compare) in
       last ∙ (λ i. before t (one (Labelled (one (Loop (front_at i) (behind_at i))) (end_label (inner_is i)))))
 
+-- those of a `while` have no step of their own
+module _ (ks : List Kept) (n n1 n2 : Names) (annots : List Annotation) (e : Expression) (a : Statement) (kept : Option KeptValue)
+    (names1 : n1 ≡ with_registers (takes (unit_of n) e) (behind_invariants_by ks annots n)) (kept_is : kept ≡ kept_in ks n1 annots) (names2 : n2 ≡ after ks a (behind_variant_by ks annots n1)) where
+  pub while_names : (at : Place) (n3 : Names) → n3 ≡ behind_compared_by ks kept n2 → n3 ≡ after ks (While at annots e a) n
+  while_names at n3 names3 =
+      turns_names ks n n1 n2 (with_registers [] n2) annots (Some e) None a kept names1 kept_is names2 refl n3 (names3 ∙ ap (behind_compared_by ks kept) (nothing_taken n2))
+
+  pub while_code : (at : Place) (spot : Spot) (t t2 : MonStatements) (inner : ℕ) (front turn behind : MonStatements) → inner ≡ spot.levels + 1 → front ≡ front_by ks n inner annots (Some e) → turn ≡ turn_by ks n1 spot annots a
+      → behind ≡ before turn (compared_by ks n2 kept) → t2 ≡ before t (one (Labelled (one (Loop front behind)) (end_label inner))) → t2 ≡ before t (statement_by ks n spot (While at annots e a))
+  while_code at spot t t2 inner front turn behind inner_is front_is turn_is behind_code last =
+      turns_code ks n n1 n2 (with_registers [] n2) annots (Some e) None a kept names1 kept_is names2 refl spot t t2 inner front turn turn behind inner_is front_is turn_is (sym (before_none turn))
+      (behind_code ∙ ap (λ m. before turn (compared_by ks m kept)) (nothing_taken n2)) last
+
 -- the rest of a `for`
-pub rest_code : (ks : List Kept) (n : Names) (spot : Spot) (t t1 t2 : MonStatements) (e step : Option Expression) (a : Statement) (own inside dying : List ℕ) → inside ≡ own ++ spot.inside → dying ≡ own
-    → t1 ≡ before t (turns_by ks n (record spot { inside = inside }) e step a) → t2 ≡ before t1 (deaths dying) → t2 ≡ before t (before (turns_by ks n (with_blocks own spot) e step a) (deaths own))
-rest_code ks n spot t t1 t2 e step a own inside dying inside_is dying_is done last =
+pub rest_code : (ks : List Kept) (n : Names) (spot : Spot) (t t1 t2 : MonStatements) (annots : List Annotation) (e step : Option Expression) (a : Statement) (own inside dying : List ℕ) → inside ≡ own ++ spot.inside → dying ≡ own
+    → t1 ≡ before t (turns_by ks n (record spot { inside = inside }) annots e step a) → t2 ≡ before t1 (deaths dying) → t2 ≡ before t (before (turns_by ks n (with_blocks own spot) annots e step a) (deaths own))
+rest_code ks n spot t t1 t2 annots e step a own inside dying inside_is dying_is done last =
     last
     ∙ (λ i. before (done i) (deaths (dying_is i)))
-    ∙ before_assoc t (turns_by ks n (record spot { inside = inside }) e step a) (deaths own)
-    ∙ ap (λ (l : List ℕ). before t (before (turns_by ks n (record spot { inside = l }) e step a) (deaths own))) inside_is
+    ∙ before_assoc t (turns_by ks n (record spot { inside = inside }) annots e step a) (deaths own)
+    ∙ ap (λ (l : List ℕ). before t (before (turns_by ks n (record spot { inside = l }) annots e step a) (deaths own))) inside_is
 
 -- a `for`, from its parts
 module _ (ks : List Kept) (n : Names) (spot : Spot) (t t1 t2 : MonStatements) (first : ForFirst) where
@@ -152,16 +220,16 @@ module _ (ks : List Kept) (n : Names) (spot : Spot) (t t1 t2 : MonStatements) (f
       ∙ ap (λ l. before t (front l)) ds_is
 
   pub for_code : (n1 : Names) (at : Place) (annots : List Annotation) (e step : Option Expression) (a : Statement) (own : List ℕ) → own ≡ with_born (next_register n.table) (declared_first first) [] → t1 ≡ before t (front (declared_first first))
-      → n1 ≡ behind_first ks first (entering (declared_first first) n) → t2 ≡ before t1 (before (turns_by ks n1 (with_blocks own spot) e step a) (deaths own)) → t2 ≡ before t (statement_by ks n spot (For at annots first e step a))
+      → n1 ≡ behind_first ks first (entering (declared_first first) n) → t2 ≡ before t1 (before (turns_by ks n1 (with_blocks own spot) annots e step a) (deaths own)) → t2 ≡ before t (statement_by ks n spot (For at annots first e step a))
   for_code n1 at annots e step a own own_is entered names last =
       let ds = declared_first first in
       let born = births_by n ds in
       let start = first_part_by ks (entering ds n) (with_variables (next_register n.table) ds spot) first in
-      let again = turns_by ks (behind_first ks first (entering ds n)) (with_variables (next_register n.table) ds spot) e step a in
+      let again = turns_by ks (behind_first ks first (entering ds n)) (with_variables (next_register n.table) ds spot) annots e step a in
       let end = deaths (with_born (next_register n.table) ds []) in
       let live : own ++ spot.inside ≡ with_born (next_register n.table) ds spot.inside = ap (λ l. l ++ spot.inside) own_is ∙ born_front (next_register n.table) ds spot.inside in
       last
-      ∙ (λ i. before (entered i) (before (turns_by ks (names i) (within (live i)) e step a) (deaths (own_is i))))
+      ∙ (λ i. before (entered i) (before (turns_by ks (names i) (within (live i)) annots e step a) (deaths (own_is i))))
       ∙ before_assoc t (before born start) (before again end)
       ∙ ap (before t) (before_assoc born start (before again end) ∙ ap (before born) (sym (before_assoc start again end)))
 
@@ -171,6 +239,5 @@ pub do_names : (ks : List Kept) (n n1 n2 : Names) (at : Place) (e : Expression) 
 do_names ks n n1 n2 at e a first last = last ∙ ap (λ (m : Names). with_registers (takes (unit_of m) e) m) first
 
 pub for_names : (ks : List Kept) (n n1 n2 : Names) (at : Place) (annots : List Annotation) (first : ForFirst) (e step : Option Expression) (a : Statement) → n1 ≡ behind_first ks first (entering (declared_first first) n)
-    → n2 ≡ with_registers (any_temporaries (act_takes (unit_of n1)) step) (after ks a (with_registers (any_temporaries (takes (unit_of n1)) e) n1)) → n2 ≡ after ks (For at annots first e step a) n
-for_names ks n n1 n2 at annots first e step a entered last =
-    last ∙ ap (λ (m : Names). with_registers (any_temporaries (act_takes (unit_of m)) step) (after ks a (with_registers (any_temporaries (takes (unit_of m)) e) m))) entered
+    → n2 ≡ after_turn_by ks annots step (after ks a (before_body_by ks annots e n1)) → n2 ≡ after ks (For at annots first e step a) n
+for_names ks n n1 n2 at annots first e step a entered last = last ∙ ap (λ m. after_turn_by ks annots step (after ks a (before_body_by ks annots e m))) entered

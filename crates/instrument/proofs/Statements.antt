@@ -5,17 +5,19 @@ use Rattle.c_syntax.specs.declared.place.Place.{Place}
 use Rattle.c_syntax.specs.declared.types.CInt.{CInt}
 use Rattle.c_syntax.specs.Ctypes.{Int}
 use Rattle.c_syntax.specs.Expressions.{Expression, type_of}
-use Rattle.c_syntax.specs.Statements.{Declaration, Statement, Empty, Eval, Block, If, While, Do, For, Break, Continue, Return, ElsePart, NoElse, Else, ForFirst, NoFirst, First, BlockItem, Declare, Specify, Run, Asserts, BlockItems, NoItem, Then}
+use Rattle.c_syntax.specs.Statements.{Declaration, Statement, Empty, Eval, Block, If, While, Do, For, Break, Continue, Return, ElsePart, NoElse, Else, ForFirst, NoFirst, First, Declare, Specify, Run, Asserts, BlockItems, NoItem, Then}
 use Rattle.c_syntax.specs.Statements.{Labelled, Switch, Cases, NoCase, AnotherCase}
+use Rattle.c_syntax.specs.Logic.{Annotation, LogicTerm}
 use Rattle.c_syntax.specs.Programs.{TranslationUnit}
 use Rattle.c_syntax.specs.Layouts.{Scalar, IntegerType, scalar_of}
 use Rattle.c_model.specs.Conversions.{promoted}
 use Rattle.c_model.specs.Memory.{Value, kill_from}
-use Rattle.c_model.specs.State.{State, Leaves, Returns, Stop, Evaluation, on_outcome, ◌>>◌, stop, births, mark, within, restored}
+use Rattle.c_model.specs.State.{State, Scope, Leaves, Returns, Stop, Evaluation, on_outcome, ◌>>◌, stop, births, mark, within, restored}
 use Rattle.c_model.specs.State as state
 use Rattle.c_model.specs.Meaning.{Tables, tables_of, eval_with, exec_with, cases_with, else_with, first_with, items_with, condition_with, effect_with, initialise_all, declared_in, declared_first, turns, turn_with}
 use Rattle.c_model.specs.Meaning as source
-use Rattle.c_model.specs.Predicates.{checks}
+use Rattle.c_model.specs.Predicates.{checks, invariants, variant}
+use Rattle.c_model.specs.TermRanges.{TermRanged}
 use Rattle.c_model.specs.ExpressionTyping.{Sight, inner, with_objects}
 use Rattle.c_model.specs.StatementTyping.{Around, in_loop, in_switch, behind_first}
 use Rattle.c_model.specs.TypedTrees.{WellTyped, IsCondition, WhereAny, Returned, StatementTyped, CasesTyped, ElseTyped, FirstTyped, ItemsTyped}
@@ -31,23 +33,31 @@ use Rattle.mon_syntax.specs.Trees.{MonExpression, MonStatement, MonStatements, N
 use Rattle.mon_syntax.specs.Trees as tree
 use Rattle.c_effects.specs.Letters.{Any, ValueHasLetters, ActHasLetters}
 use Rattle.c_model.specs.EffectPlaces.{FirstPlaced, StatementPlaced, CasesPlaced, ElsePlaced, ItemsPlaced}
-use Rattle.instrument.proofs.RangedTrees.{AreRangedAsserts, nothing_declared}
+use Rattle.instrument.proofs.RangedTrees.{AreRangedAsserts, AreRangedClauses, nothing_declared}
 use Rattle.instrument.specs.Limits.{HasNumbers, CasesHaveNumbers, ElseHasNumbers, FirstHasNumbers, HaveNumbers}
 use Rattle.c_effects.specs.Expressions.{value_type, before, one, set}
-use Rattle.annot_simulation.specs.Code.{assertions}
+use Rattle.c_effects.proofs.Sequences.{before_none}
+use Rattle.annot_simulation.specs.Code.{assertions, valuation, width_of}
+use Rattle.annot_simulation.specs.Code.{type_of as code_type}
+use Rattle.annot_simulation.specs.Does.{TermFound}
 use Rattle.annot_simulation.proofs.Asserted.{behind_grows}
+use Rattle.annot_simulation.proofs.Exact.{is_number}
 use Rattle.c_initialisers.specs.Translation.{declaration_temporaries}
 use Rattle.c_initialisers.specs.Translation as initialisers
 use Rattle.c_effects.specs.Effects.{any_temporaries}
 use Rattle.c_effects.specs.Full.{act, act_takes, condition_result, prepare, result, takes}
 use Rattle.track_scopes.specs.Blocks.{entered, deaths, with_born}
 use Rattle.track_scopes.specs.Lives.{with_store}
-use Rattle.instrument.specs.Translation.{Spot, passed_label, returned_temporaries, switch_temporaries, after_statement, after_cases, after_else, after_first, after_item, after_items, with_variables, search, others_in_block, statement}
+use Rattle.instrument.specs.Translation.{Spot, passed_label, returned_temporaries, switch_temporaries, after_invariants, before_body, after_turn, after_statement, after_cases, after_else, after_first, after_item, after_items, with_variables}
+use Rattle.instrument.specs.Translation.{search, others_in_block, statement}
+use Rattle.instrument.specs.Translation.{front_of, kept_of, compared_of, turns_of}
+use Rattle.instrument.specs.LoopClauses.{behind_variant, invariants_code, variant_kept, variant_compared}
+use Rattle.instrument.specs.LoopClauses as variants
 use Rattle.instrument.specs.Translation.{test, test_if_any, act_if_any, next_cases, blocks_of_cases, else_part, first_part, items, loop}
 use Rattle.c_simulation.specs.Labels.{end_label, next_label, leave_label}
 use Rattle.instrument.specs.Translation as target
 use Rattle.annot_simulation.specs.Snapshots.{Ascend, snapshot}
-use Rattle.instrument.proofs.Passages.{KeptIn, CasesKept, ElseKept, ItemsKept, snapshot_grows, passage_follows}
+use Rattle.instrument.proofs.Passages.{AnnotationsFound, KeptIn, CasesKept, ElseKept, ItemsKept, snapshot_grows, passage_follows}
 use Rattle.c_simulation.specs.Keeping.{StandsBehind}
 use Rattle.instrument.proofs.DeclarationCode.{next-entered}
 use Rattle.c_simulation.specs.Standing.{Target, Setting, runs, Has, Keeps, Here, Beside}
@@ -60,11 +70,12 @@ use Rattle.c_simulation.proofs.Following.{later_same, onward, passes_later, stay
 use Rattle.c_simulation.proofs.Evaluating.{behind_setup, set_runs}
 use Rattle.c_simulation.proofs.Reaching.{follows_before, follows_behind, reached_done, reached_follows, reached_here, test_runs}
 use Rattle.c_simulation.specs.Following.{Passes, IsResult, IsResultOf, HoldsResult, left_by, Follows, Breaks, Continues, IsLeft}
-use Rattle.instrument.proofs.Births.{with_numbers, pointed_point, pointed_append, all_apart, behind_births}
+use Rattle.instrument.proofs.Births.{names_of, with_numbers, pointed_point, pointed_append, all_apart, behind_births}
 use Rattle.instrument.proofs.Blocks.{Meets, meets_after, meets_later, block_follows}
 use Rattle.instrument.proofs.Loops as loops
 use Rattle.instrument.proofs.Switches as switches
-use Rattle.instrument.proofs.Declared.{AreBorn, CanDeclare, CasesCanDeclare, ElseCanDeclare, ItemsCanDeclare, AreAbsent, meets_behind, meets_behind_items, more_kinds, statement_grows, cases_grow, else_grows, first_grows, items_grow}
+use Rattle.instrument.proofs.Declared.{AreBorn, CanDeclare, CasesCanDeclare, ElseCanDeclare, ItemsCanDeclare, AreAbsent, meets_behind, meets_behind_items, more_kinds, variant_grows, body_behind, turn_grows, statement_grows, cases_grow, else_grows}
+use Rattle.instrument.proofs.Declared.{first_grows, items_grow}
 use Rattle.c_simulation.proofs.Expressions.{handed_on}
 use Rattle.c_simulation.specs.SameRegisters.{Same, Stays}
 use Rattle.instrument.proofs.InitialisedVariables.{initials_reach}
@@ -73,7 +84,8 @@ use Rattle.interval_infer.specs.InSight.{AreFound}
 use Rattle.interval_infer.proofs.Sights.{DeclarationsFound, found_with_all, declarations_found-append}
 use Rattle.instrument.proofs.Sight.{scope_for, sees_found, sees_born, declared_born}
 use Rattle.instrument.proofs.Evaluations.{act_reached, condition_reached, value_reached}
-use Rattle.instrument.proofs.Asserts.{assertions_follow}
+use Rattle.instrument.proofs.Asserts.{assertions_follow, invariants_follow, invariants_grow, valuation_grows, value_behind}
+use Rattle.instrument.proofs.Variants.{variant_found, variant_ranged, kept_reaches, compared_reaches}
 use Rattle.instrument.proofs.Own.{AllCanBeBorn, AreThere, are_there}
 
 there_front : (p : TranslationUnit) (a b : List Declaration) → AreThere p (a ++ b) → AreThere p a
@@ -328,10 +340,7 @@ module _ (w : Setting) (n : ℕ) (ordered : Ascend w.plan_from w.plan w.plan_to)
       block_follows w h spot low r living ds le regs from t m born.own n x a room (births_enter w.unit.structs (next_register r) ds born.small) (deaths_end (with_born (next_register r) ds []))
       (λ room after to u less m2. f from room after to u m2 (omega (arith, ln, less)))
 
-  -- ---- the loop of a `for`
-
-  abbrev for_turns : Option Expression → Option Expression → Statement → Evaluation (Unit {0})
-  for_turns e step a = turns (suc n) (condition_with T e w.call) (turn_with None (exec_with T a w.call (suc n)) (effect_with T step w.call))
+  -- ---- the turns of a `while` or a `for`
 
   test_if_any_does : (h : Here) (base : ℕ) (spot : Spot) (low : ℕ) (living : List ℕ) (s : Sight) (g : Scene w n s) (r : RegisterTable) (e : Option Expression) → WhereAny (IsCondition s) e → Any ValueHasLetters e
       → low ≤ next_register r → next_register (with_kinds (any_temporaries (takes w.unit) e) r) ≤ w.registers
@@ -341,30 +350,78 @@ module _ (w : Setting) (n : ℕ) (ordered : Ascend w.plan_from w.plan w.plan_to)
       loops.tests w h base spot low r.bound living n (source.condition_of T e w.call) (prepare w.unit r.bound r.kinds e) (condition_result w.unit r.bound r.kinds e) (length (r.kinds ++ takes w.unit e))
       (λ regs from t m le. condition_tested (loops.in_turn w h base spot low r.bound living n) (target.in_loop spot) low r.bound living s g r.kinds e q l behind enough regs from t m le)
 
-  abbrev BodyDoes : Here → Spot → ℕ → RegisterTable → List ℕ → Statement → Type 0
+  -- the body of a loop does the same over registers that stay up to any number in front of its own
+  abbrev pub BodyDoes : Here → Spot → ℕ → RegisterTable → List ℕ → Statement → Type 0
   BodyDoes h spot low r living a =
-      (base : ℕ) → DoSame (loops.in_body w h base spot low r.bound living n) (target.in_loop spot) low r.bound living (exec_with T a w.call (suc n)) (statement w.unit w.plan (target.in_loop spot) r a)
+      (base high : ℕ) → low ≤ high → high ≤ next_register r
+      → DoSame (loops.in_body w h base spot low r.bound living n) (target.in_loop spot) high r.bound living (exec_with T a w.call (suc n)) (statement w.unit w.plan (target.in_loop spot) r a)
 
-  for_does : (h : Here) (spot : Spot) (low : ℕ) (living : List ℕ) (s : Sight) (g : Scene w n s) (r : RegisterTable) (e step : Option Expression) (a : Statement) → WhereAny (IsCondition s) e → Any ValueHasLetters e
+  -- a turn with this variant, where code of these parts does the same
+  rounds_of : (h : Here) (base : ℕ) (spot : Spot) (low : ℕ) (bound later : Bindings) (living : List ℕ) (ks js : List MonType) (o : Option (Annotation × LogicTerm)) (x y : Evaluation (Unit {0})) (code b : MonStatements)
+      → ((v : Annotation × LogicTerm) → o ≡ Some v → TermRanged [] v.1) → ((v : Annotation × LogicTerm) (scope : Scope) → o ≡ Some v → names_of scope ≡ living → TermFound w.plan scope [] v.1)
+      → low ≤ length ks → length (behind_variant w.unit bound w.plan ks o) ≤ length js → length (behind_variant w.unit later w.plan js o) ≤ w.registers
+      → ((high : ℕ) → low ≤ high → high ≤ length (behind_variant w.unit bound w.plan ks o) → DoSame (loops.in_body w h base spot low bound living n) (target.in_loop spot) high bound living x code)
+      → ((high : ℕ) → high ≤ length (behind_variant w.unit bound w.plan ks o) → ReachSame (loops.in_turn w h base spot low bound living n) (target.in_loop spot) high bound living y b)
+      → ((high : ℕ) (regs : List Value) (s : State) (t : Target) → Meets w (loops.in_turn w h base spot low bound living n) (target.in_loop spot) high bound living regs s t
+      → Meets w (loops.in_turn w h base spot low bound living n) (target.in_loop spot) high later living regs s t)
+      → loops.Rounds w h base spot low bound living n (turn_with o x y)
+      (before (variant_kept w.unit bound w.plan ks o) (tree.Then (tree.Labelled code (next_label (spot.levels + 1))) (before b (variant_compared w.unit bound later w.plan ks js o))))
+  rounds_of h base spot low bound later living ks js None x y code b ranged found behind fits room body step names =
+      subst (λ c. loops.Rounds w h base spot low bound living n (turn_with None x y) (tree.Then (tree.Labelled code (next_label (spot.levels + 1))) c)) (sym (before_none b))
+      (loops.plain_rounds w h base spot low bound living n low (omega arith) x code (body low (omega arith) behind) y b (step low behind))
+  rounds_of h base spot low bound later living ks js (Some v) x y code b ranged found behind fits room body step names =
+      let k = valuation w.unit bound w.plan [] v.1 ks in
+      let here = loops.in_turn w h base spot low bound living n in
+      let place = value_behind w.unit bound w.plan [] v.1 ks in
+      loops.variant_rounds w h base spot low bound living n (length k.used) (omega (arith, behind, place.0, place.1)) x code (body (length k.used) (omega (arith, behind, place.0, place.1)) (omega arith)) y b (step (length k.used) (omega arith))
+      v (variants.wanted v.0 k) (variant_compared w.unit bound later w.plan ks js (Some v)) k.value (omega (arith, behind, place.0)) (omega (arith, place.1))
+      (λ regs s t m le.
+      kept_reaches w n here low bound v.0 v.1 (ranged v refl) ks behind regs s t le (found v s.scope refl m.names) (omega (arith, m.standing.registers, fits, room, valuation_grows w.unit later w.plan [] v.1 js)) m.standing m.beside)
+      (λ old regs s t m has le.
+      let m2 = names (length k.used) regs s t m in
+      compared_reaches w n here (length k.used) later v.0 v.1 (ranged v refl) js fits regs s t le (found v s.scope refl m.names) (omega (arith, m.standing.registers, room)) m2.standing m2.beside
+      (code_type v.1) (is_number (width_of v.1)) k.value old (omega (arith, place.1, fits)) has)
+
+  turns_do : (h : Here) (spot : Spot) (low : ℕ) (living : List ℕ) (s : Sight) (g : Scene w n s) (r : RegisterTable) (annots : List Annotation) (e step : Option Expression) (a : Statement)
+      → AreRangedClauses annots → ((scope : Scope) → names_of scope ≡ living → AnnotationsFound w.plan scope annots) → WhereAny (IsCondition s) e → Any ValueHasLetters e
       → WhereAny (WellTyped s) step → Any ActHasLetters step → AreAbsent living (declared_within a) → low ≤ next_register r
-      → next_register (with_kinds (any_temporaries (act_takes w.unit) step) (after_statement w.unit w.plan a (with_kinds (any_temporaries (takes w.unit) e) r))) ≤ w.registers
-      → BodyDoes h spot low (with_kinds (any_temporaries (takes w.unit) e) r) living a
-      → DoSame h spot low r.bound living (for_turns e step a) (target.for_turns w.unit (spot.levels + 1) r (after_statement w.unit w.plan a (with_kinds (any_temporaries (takes w.unit) e) r)) e step
-      (statement w.unit w.plan (target.in_loop spot) (with_kinds (any_temporaries (takes w.unit) e) r) a))
-  for_does h spot low living s g r e step a e_typed e_letters step_typed step_letters absent behind enough body = λ regs from t m le.
-      let r2 = with_kinds (any_temporaries (takes w.unit) e) r in
-      let r3 = after_statement w.unit w.plan a r2 in
+      → next_register (after_turn w.unit w.plan annots step (after_statement w.unit w.plan a (before_body w.unit w.plan annots e r))) ≤ w.registers
+      → BodyDoes h spot low (before_body w.unit w.plan annots e r) living a
+      → DoSame h spot low r.bound living (turns (suc n) (invariants annots >> condition_with T e w.call) (turn_with (variant annots) (exec_with T a w.call (suc n)) (effect_with T step w.call)))
+      (turns_of w.unit w.plan annots (spot.levels + 1) r (after_statement w.unit w.plan a (before_body w.unit w.plan annots e r)) e step
+      (statement w.unit w.plan (target.in_loop spot) (before_body w.unit w.plan annots e r) a))
+  turns_do h spot low living s g r annots e step a clauses found e_typed e_letters step_typed step_letters absent behind enough body = λ regs from t m le.
+      let r1 = after_invariants w.unit w.plan annots r in
+      let r2 = with_kinds (any_temporaries (takes w.unit) e) r1 in
+      let r3 = before_body w.unit w.plan annots e r in
+      let r4 = after_statement w.unit w.plan a r3 in
+      let r5 = with_kinds (any_temporaries (act_takes w.unit) step) r4 in
       let base = length from.store in
-      let f1 = more_kinds (any_temporaries (takes w.unit) e) r in
-      let f2 = statement_grows w.unit w.plan a r2 in
-      let f3 = more_kinds (any_temporaries (act_takes w.unit) step) r3 in
+      let f1 = invariants_grow w.unit r.bound w.plan r.kinds annots in
+      let f2 = more_kinds (any_temporaries (takes w.unit) e) r1 in
+      let f3 = variant_grows w.unit r.bound w.plan r2.kinds (variant annots) in
+      let f4 = statement_grows w.unit w.plan a r3 in
+      let f5 = more_kinds (any_temporaries (act_takes w.unit) step) r4 in
+      let f6 = variant_grows w.unit r4.bound w.plan r5.kinds (variant annots) in
       let here = loops.in_turn w h base spot low r.bound living n in
-      loops.loop_follows w h base spot low r.bound living n from _ regs t (test_if_any w.unit r.bound r.kinds (spot.levels + 1) e) (statement w.unit w.plan (target.in_loop spot) r2 a) (act_if_any w.unit r3.bound r3.kinds step)
-      (loops.turns_follow w h base spot low r.bound living n (condition_with T e w.call) (exec_with T a w.call (suc n)) (statement w.unit w.plan (target.in_loop spot) r2 a) (body base)
-      (test_if_any w.unit r.bound r.kinds (spot.levels + 1) e) (test_if_any_does h base spot low living s g r e e_typed e_letters behind (omega (arith, enough, f2, f3)))
-      (effect_with T step w.call) (act_if_any w.unit r3.bound r3.kinds step)
-      (λ regs from t m le. effect_if_any_reached here (target.in_loop spot) low r3.bound living s g r3.kinds step step_typed step_letters (omega (arith, behind, f1, f2)) enough regs from t
-      (meets_behind w here (target.in_loop spot) low a r2 living regs from t absent m) le)
+      let x = exec_with T a w.call (suc n) in
+      let y = effect_with T step w.call in
+      let code = statement w.unit w.plan (target.in_loop spot) r3 a in
+      let act = act_if_any w.unit r4.bound r4.kinds step in
+      let behind_all = before act (compared_of w.unit w.plan annots r e r4 step) in
+      loops.loop_follows w h base spot low r.bound living n from _ regs t (front_of w.unit w.plan annots (spot.levels + 1) r e) (kept_of w.unit w.plan annots r e) code behind_all
+      (loops.turns_follow w h base spot low r.bound living n (invariants annots >> condition_with T e w.call) (front_of w.unit w.plan annots (spot.levels + 1) r e)
+      (loops.part_tests w h base spot low r.bound living n (invariants annots) (invariants_code w.unit r.bound w.plan r.kinds annots) (condition_with T e w.call) (test_if_any w.unit r.bound r1.kinds (spot.levels + 1) e)
+      (λ regs s t m le. invariants_follow w n here low r.bound annots clauses r.kinds behind (omega (arith, f2, f3, f4, f5, f6, enough)) regs s t le (found s.scope m.names) m.standing m.beside)
+      (test_if_any_does h base spot low living s g r1 e e_typed e_letters (omega (arith, behind, f1)) (omega (arith, f3, f4, f5, f6, enough))))
+      (turn_with (variant annots) x y) (before (kept_of w.unit w.plan annots r e) (tree.Then (tree.Labelled code (next_label (spot.levels + 1))) behind_all))
+      (rounds_of h base spot low r.bound r4.bound living r2.kinds r5.kinds (variant annots) x y code act
+      (λ v is. variant_ranged annots v is clauses.ranged) (λ v scope is names. variant_found annots v w.plan scope is (found scope names))
+      (omega (arith, behind, f1, f2)) (omega (arith, f4, f5)) enough
+      (λ high wide fits. body base high wide fits)
+      (λ high fits regs u t m le. effect_if_any_reached here (target.in_loop spot) high r4.bound living s g r4.kinds step step_typed step_letters (omega (arith, fits, f4)) (omega (arith, f6, enough)) regs u t
+      (meets_behind w here (target.in_loop spot) high a r3 living regs u t absent m) le)
+      (λ high regs u t m. meets_behind w here (target.in_loop spot) high a r3 living regs u t absent m))
       n regs from t (loops.meets_turn w h base spot low r.bound living n regs from t refl m) le le)
 
   -- what stands first, and then the loop
@@ -382,34 +439,36 @@ module _ (w : Setting) (n : ℕ) (ordered : Ascend w.plan_from w.plan w.plan_to)
   first_then (First (Specify at t)) local h spot low living s g around r x code f q l behind enough go = go
   first_then _ local h spot low living s g around r x code f q l behind enough go = absurd f
 
-  for_follows : (at : Place) (first : ForFirst) (s : Sight) (g : Scene w n s) (around : Around) (h : Here) (spot : Spot) (low : ℕ) (r : RegisterTable) (living : List ℕ) (e step : Option Expression) (a : Statement)
-      → AreBorn w.unit (declared_first first) → AreAbsent (with_numbers (declared_first first) living) (declared_within a) → FirstPlaced first → FirstTyped (inner s) around first → FirstHasNumbers first
+  for_follows : (at : Place) (annots : List Annotation) (first : ForFirst) (s : Sight) (g : Scene w n s) (around : Around) (h : Here) (spot : Spot) (low : ℕ) (r : RegisterTable) (living : List ℕ) (e step : Option Expression) (a : Statement)
+      → AreBorn w.unit (declared_first first) → AreAbsent (with_numbers (declared_first first) living) (declared_within a) → AreRangedClauses annots
+      → ((scope : Scope) → names_of scope ≡ with_numbers (declared_first first) living → AnnotationsFound w.plan scope annots)
+      → FirstPlaced first → FirstTyped (inner s) around first → FirstHasNumbers first
       → WhereAny (IsCondition (behind_first (inner s) first)) e → Any ValueHasLetters e → WhereAny (WellTyped (behind_first (inner s) first)) step → Any ActHasLetters step
-      → low ≤ next_register r → next_register (after_statement w.unit w.plan (For at [] first e step a) r) ≤ w.registers
+      → low ≤ next_register r → next_register (after_statement w.unit w.plan (For at annots first e step a) r) ≤ w.registers
       → ((old : State) → BodyDoes (behind_births w.unit.structs h old (declared_first first)) (with_variables (next_register r) (declared_first first) spot) (next_register r + length (declared_first first))
-      (with_kinds (any_temporaries (takes w.unit) e) (after_first w.unit w.plan first (entered (declared_first first) r))) (with_numbers (declared_first first) living) a)
-      → DoSame h spot low r.bound living (exec_with T (For at [] first e step a) w.call (suc n)) (statement w.unit w.plan spot r (For at [] first e step a))
-  for_follows at first s g around h spot low r living e step a born absent f_formed f_typed f_letters e_typed e_letters step_typed step_letters behind enough body = λ regs from t m le.
+      (before_body w.unit w.plan annots e (after_first w.unit w.plan first (entered (declared_first first) r))) (with_numbers (declared_first first) living) a)
+      → DoSame h spot low r.bound living (exec_with T (For at annots first e step a) w.call (suc n)) (statement w.unit w.plan spot r (For at annots first e step a))
+  for_follows at annots first s g around h spot low r living e step a born absent clauses found f_formed f_typed f_letters e_typed e_letters step_typed step_letters behind enough body = λ regs from t m le.
       let ds = declared_first first in
       let r1 = entered ds r in
       let r2 = after_first w.unit w.plan first r1 in
-      let r3 = with_kinds (any_temporaries (takes w.unit) e) r2 in
+      let r3 = before_body w.unit w.plan annots e r2 in
       let r4 = after_statement w.unit w.plan a r3 in
       let spot2 = with_variables (next_register r) ds spot in
       let low2 = next_register r + length ds in
       let f0 = next-entered ds r in
       let f1 = first_grows w.unit w.plan first r1 in
-      let f2 = more_kinds (any_temporaries (takes w.unit) e) r2 in
+      let f2 = body_behind w.unit w.plan annots e r2 in
       let f3 = statement_grows w.unit w.plan a r3 in
-      let f4 = more_kinds (any_temporaries (act_takes w.unit) step) r4 in
-      let turns_of = for_turns e step a in
-      let code = target.for_turns w.unit (spot.levels + 1) r2 r4 e step (statement w.unit w.plan (target.in_loop spot2) r3 a) in
+      let f4 = turn_grows w.unit w.plan annots step r4 in
+      let all_turns = turns (suc n) (invariants annots >> condition_with T e w.call) (turn_with (variant annots) (exec_with T a w.call (suc n)) (effect_with T step w.call)) in
+      let code = turns_of w.unit w.plan annots (spot.levels + 1) r2 r4 e step (statement w.unit w.plan (target.in_loop spot2) r3 a) in
       subst (λ x. Follows w h low regs Next from (restored from x) (runs w n t (target.alive w.unit (next_register r) ds (before (first_part w.unit w.plan spot2 r1 first) code)) regs))
-      (handed_on (births w.unit.structs ds from) (λ _. first_with T first w.call (suc n)) (λ _. turns_of))
-      (block_does h spot low r living ds (first_with T first w.call (suc n) >> turns_of) (before (first_part w.unit w.plan spot2 r1 first) code) behind (omega (arith, enough, f0, f1, f2, f3, f4)) born
-      (λ old room. first_then first (are_there w.unit ds born.local room) (behind_births w.unit.structs h old ds) spot2 low2 (with_numbers ds living) (inner s) (scene_inner w n s g) around r1 turns_of code f_formed f_typed f_letters
+      (handed_on (births w.unit.structs ds from) (λ _. first_with T first w.call (suc n)) (λ _. all_turns))
+      (block_does h spot low r living ds (first_with T first w.call (suc n) >> all_turns) (before (first_part w.unit w.plan spot2 r1 first) code) behind (omega (arith, enough, f0, f1, f2, f3, f4)) born
+      (λ old room. first_then first (are_there w.unit ds born.local room) (behind_births w.unit.structs h old ds) spot2 low2 (with_numbers ds living) (inner s) (scene_inner w n s g) around r1 all_turns code f_formed f_typed f_letters
       (omega (arith, f0)) (omega (arith, enough, f2, f3, f4))
-      (for_does (behind_births w.unit.structs h old ds) spot2 low2 (with_numbers ds living) (behind_first (inner s) first) (scene_behind_first w n (inner s) first (scene_inner w n s g)) r2 e step a
+      (turns_do (behind_births w.unit.structs h old ds) spot2 low2 (with_numbers ds living) (behind_first (inner s) first) (scene_behind_first w n (inner s) first (scene_inner w n s g)) r2 annots e step a clauses found
       e_typed e_letters step_typed step_letters absent (omega (arith, f0, f1)) enough (body old)))
       regs from t m le)
 
@@ -432,7 +491,7 @@ module _ (w : Setting) (n : ℕ) (ordered : Ascend w.plan_from w.plan w.plan_to)
     pub statement_follows : (a : Statement) (s : Sight) (around : Around) (h : Here) (spot : Spot) (low : ℕ) (r : RegisterTable) (living : List ℕ)
         → (spot.levels ≡ h.levels) × (spot.innermost ≡ h.innermost) → Scene w n s → AreFound s.entities (scope_for living)
         → around.result ≡ h.result → (around.loops ≡ h.looped) × (around.breaks ≡ h.breaks)
-        → CanDeclare w.unit living a → StatementPlaced AreRangedAsserts a → StatementTyped s around a → KeptIn w.plan s a → HasNumbers a → low ≤ next_register r → next_register (after_statement w.unit w.plan a r) ≤ w.registers
+        → CanDeclare w.unit living a → StatementPlaced AreRangedAsserts AreRangedClauses a → StatementTyped s around a → KeptIn w.plan s a → HasNumbers a → low ≤ next_register r → next_register (after_statement w.unit w.plan a r) ≤ w.registers
         → DoSame h spot low r.bound living (exec_with T a w.call (suc n)) (statement w.unit w.plan spot r a)
     statement_follows (Empty at) s around h spot low r living stands g sees result looped c f q kp l behind enough = nothing_does h spot low r.bound living
     statement_follows (Eval at e) s around h spot low r living stands g sees result looped c f q kp l behind enough = effect_does h spot low r.bound living s g r.kinds e q l behind enough
@@ -454,28 +513,22 @@ module _ (w : Setting) (n : ℕ) (ordered : Ascend w.plan_from w.plan w.plan_to)
         (statement_follows a s around h spot low r1 living stands g sees result looped c.1 f.0 q.1 kp.0 l.1 (omega (arith, behind, f1)) (omega (arith, enough, f3)))
         (behind_first_part a h spot low r1 living (else_with T b w.call (suc n)) (else_part w.unit w.plan spot r2 b) c.0
         (else_follows b s around h spot low r2 living stands g sees result looped c.2 f.1 q.2 kp.1 l.2 (omega (arith, behind, f1, f2)) enough))
-    statement_follows (While at annots e a) s around h spot low r living stands g sees result looped c f q kp l behind enough = λ regs from t x le.
-        let r1 = with_kinds (takes w.unit e) r in
-        let k = spot.levels + 1 in
-        let base = length from.store in
-        let here = loops.in_body w h base spot low r.bound living n in
-        subst (λ xs. Follows w h low regs Next from (exec_with T (While at xs e a) w.call (suc n) from) (runs w n t (statement w.unit w.plan spot r (While at [] e a)) regs)) (sym f.0)
-        (loops.loop_follows w h base spot low r.bound living n from _ regs t (test w.unit r.bound r.kinds k e) (statement w.unit w.plan (target.in_loop spot) r1 a) NoStatement
-        (loops.turns_follow w h base spot low r.bound living n (source.condition_of T e w.call) (exec_with T a w.call (suc n)) (statement w.unit w.plan (target.in_loop spot) r1 a)
-        (statement_follows a s (in_loop around) here (target.in_loop spot) low r1 living (refl, refl) g sees result (refl, refl) c f.1 q.1 kp l.1 (omega (arith, behind, more_kinds (takes w.unit e) r)) enough)
-        (test w.unit r.bound r.kinds k e) (test_if_any_does h base spot low living s g r (Some e) q.0 l.0 behind (omega (arith, enough, statement_grows w.unit w.plan a r1)))
-        state.done NoStatement (nothing_reached (loops.in_turn w h base spot low r.bound living n) (target.in_loop spot) low r.bound living)
-        n regs from t (loops.meets_turn w h base spot low r.bound living n regs from t refl x) le le))
+    statement_follows (While at annots e a) s around h spot low r living stands g sees result looped c f q kp l behind enough =
+        let r1 = before_body w.unit w.plan annots (Some e) r in
+        let f1 = turn_grows w.unit w.plan annots None (after_statement w.unit w.plan a r1) in
+        turns_do h spot low living s g r annots (Some e) None a f.0 (λ scope names. kp.0 scope (sees_found s.entities living scope names sees)) q.0 l.0 tt tt c.0 behind enough
+        (λ base high wide fits. statement_follows a s (in_loop around) (loops.in_body w h base spot low r1.bound living n) (target.in_loop spot) high r1 living (refl, refl) g sees result (refl, refl) c.1 f.1 q.1 kp.1 l.1 fits
+        (omega (arith, enough, f1)))
     statement_follows (Do at a e) s around h spot low r living stands g sees result looped c f q kp l behind enough = λ regs from t x le.
         let r1 = after_statement w.unit w.plan a r in
         let k = spot.levels + 1 in
         let base = length from.store in
         let here = loops.in_body w h base spot low r.bound living n in
         let there = loops.in_turn w h base spot low r.bound living n in
-        loops.loop_follows w h base spot low r.bound living n from _ regs t NoStatement (statement w.unit w.plan (target.in_loop spot) r a) (test w.unit r1.bound r1.kinds k e)
-        (loops.do_turns_follow w h base spot low r.bound living n (source.condition_of T e w.call) (exec_with T a w.call (suc n)) (statement w.unit w.plan (target.in_loop spot) r a)
+        loops.loop_follows w h base spot low r.bound living n from _ regs t NoStatement NoStatement (statement w.unit w.plan (target.in_loop spot) r a) (test w.unit r1.bound r1.kinds k e)
+        (loops.do_turns_follow w h base spot low r.bound living n low (omega arith) (exec_with T a w.call (suc n)) (statement w.unit w.plan (target.in_loop spot) r a)
         (statement_follows a s (in_loop around) here (target.in_loop spot) low r living (refl, refl) g sees result (refl, refl) c.1 f q.0 kp l.0 behind (omega (arith, enough, more_kinds (takes w.unit e) r1)))
-        (test w.unit r1.bound r1.kinds k e)
+        (source.condition_of T e w.call) (test w.unit r1.bound r1.kinds k e)
         (loops.tests w h base spot low r.bound living n (source.condition_of T e w.call) (prepare w.unit r1.bound r1.kinds e) (condition_result w.unit r1.bound r1.kinds e) (length (r1.kinds ++ takes w.unit e))
         (λ regs from t m le. condition_tested there (target.in_loop spot) low r1.bound living s g r1.kinds e q.1 l.1 (omega (arith, behind, statement_grows w.unit w.plan a r)) enough regs from t
         (meets_behind w there (target.in_loop spot) low a r living regs from t c.0 m) le))
@@ -484,17 +537,16 @@ module _ (w : Setting) (n : ℕ) (ordered : Ascend w.plan_from w.plan w.plan_to)
         let ds = declared_first first in
         let r1 = entered ds r in
         let r2 = after_first w.unit w.plan first r1 in
-        let r3 = with_kinds (any_temporaries (takes w.unit) e) r2 in
-        let f0 = next-entered ds r in
-        let f1 = first_grows w.unit w.plan first r1 in
-        let f2 = more_kinds (any_temporaries (takes w.unit) e) r2 in
-        let f4 = more_kinds (any_temporaries (act_takes w.unit) step) (after_statement w.unit w.plan a r3) in
+        let r3 = before_body w.unit w.plan annots e r2 in
+        let f4 = turn_grows w.unit w.plan annots step (after_statement w.unit w.plan a r3) in
         let spot2 = with_variables (next_register r) ds spot in
         let low2 = next_register r + length ds in
-        subst (λ xs. DoSame h spot low r.bound living (exec_with T (For at xs first e step a) w.call (suc n)) (statement w.unit w.plan spot r (For at [] first e step a))) (sym f.0)
-        (for_follows at first s g around h spot low r living e step a c.0 c.1 f.1 q.0 l.0 q.1 l.1 q.2 l.3 behind enough (λ old base.
-        statement_follows a (behind_first (inner s) first) (in_loop around) (loops.in_body w (behind_births w.unit.structs h old ds) base spot2 low2 r3.bound (with_numbers ds living) n) (target.in_loop spot2) low2 r3 (with_numbers ds living)
-        (refl, refl) (scene_behind_first w n (inner s) first (scene_inner w n s g)) (sees_first first s living sees) result (refl, refl) c.2 f.2 q.3 kp l.2 (omega (arith, f0, f1, f2)) (omega (arith, enough, f4))))
+        let there = sees_first first s living sees in
+        for_follows at annots first s g around h spot low r living e step a c.0 c.1 f.0 (λ scope names. kp.0 scope (sees_found (behind_first (inner s) first).entities (with_numbers ds living) scope names there))
+        f.1 q.0 l.0 q.1 l.1 q.2 l.3 behind enough
+        (λ old base high wide fits.
+        statement_follows a (behind_first (inner s) first) (in_loop around) (loops.in_body w (behind_births w.unit.structs h old ds) base spot2 low2 r3.bound (with_numbers ds living) n) (target.in_loop spot2) high r3 (with_numbers ds living)
+        (refl, refl) (scene_behind_first w n (inner s) first (scene_inner w n s g)) there result (refl, refl) c.2 f.2 q.3 kp.1 l.2 fits (omega (arith, enough, f4)))
     statement_follows (Break at) s around h spot low r living stands g sees result looped c f q kp l behind enough = λ regs from t x le. break_follows w n h spot low r.bound living from regs t x stands.0 (sym looped.1 ∙ q)
     statement_follows (Continue at) s around h spot low r living stands g sees result looped c f q kp l behind enough = λ regs from t x le. continue_follows w n h spot low r.bound living from regs t x stands.1 (sym looped.0 ∙ q)
     statement_follows (Return at e) s around h spot low r living stands g sees result looped c f q kp l behind enough = returned_does h spot low living s g r e (subst (λ k. Returned s k e) result q) l behind enough at
@@ -503,7 +555,7 @@ module _ (w : Setting) (n : ℕ) (ordered : Ascend w.plan_from w.plan w.plan_to)
         let f1 = snapshot_grows w.unit r.bound (Some x) w.plan r.kinds in
         let f2 = statement_grows w.unit w.plan a r1 in
         in_order_same h spot low r.bound living (mark (Some x)) (exec_with T a w.call (suc n)) (snapshot w.unit r.bound (Some x) r.kinds w.plan) (statement w.unit w.plan spot r1 a)
-        (λ regs from t y le. passage_follows w n ordered h (AreFound s.entities) low r.bound (Some x) kp.0 r.kinds behind (omega (arith, enough, f2)) regs from t (sees_found s.entities living from.scope y.names sees) y.standing y.beside)
+        (λ regs from t y le. passage_follows w n ordered h (AreFound s.entities) low r.bound (Some x) kp.0 r.kinds behind (omega (arith, enough, f2)) regs from t le (sees_found s.entities living from.scope y.names sees) y.standing y.beside)
         (statement_follows a s around h spot low r1 living stands g sees result looped c f q kp.1 l (omega (arith, behind, f1)) enough)
     statement_follows (Switch at e cases) s around h spot low r living stands g sees result looped c f q kp l behind enough =
         let taken = with_kinds (switch_temporaries w.unit e) r in
@@ -529,7 +581,8 @@ module _ (w : Setting) (n : ℕ) (ordered : Ascend w.plan_from w.plan w.plan_to)
     cases_follow : (cs : Cases) (s : Sight) (around : Around) (h : Here) (spot : Spot) (low : ℕ) (r : RegisterTable) (living : List ℕ) (j chosen : ℕ) → j < low → (k : CInt) (i k2 m2 : ℕ) → switches.Left chosen i m2
         → (spot.levels ≡ h.levels) × (spot.innermost ≡ h.innermost) → Scene w n s → AreFound s.entities (scope_for living)
         → around.result ≡ h.result → (around.loops ≡ h.looped) × (around.breaks ≡ h.breaks)
-        → CasesCanDeclare w.unit living cs → CasesPlaced AreRangedAsserts cs → CasesTyped s around k cs → CasesKept w.plan s cs → CasesHaveNumbers i cs → low ≤ next_register r → next_register (after_cases w.unit w.plan cs r) ≤ w.registers
+        → CasesCanDeclare w.unit living cs → CasesPlaced AreRangedAsserts AreRangedClauses cs → CasesTyped s around k cs → CasesKept w.plan s cs → CasesHaveNumbers i cs
+        → low ≤ next_register r → next_register (after_cases w.unit w.plan cs r) ≤ w.registers
         → switches.CasesDo w n h spot low living j chosen r.bound (cases_with T cs w.call (suc n) m2) (before (next_cases w.unit w.plan spot r j i k2 cs) (blocks_of_cases w.unit w.plan spot r j i k2 cs))
     cases_follow NoCase s around h spot low r living j chosen lt k i k2 m2 left stands g sees result looped c f q kp l behind enough = λ regs from t x le has plan. nothing_does h spot low r.bound living regs from t x le
     cases_follow (AnotherCase at value body rest) s around h spot low r living j chosen lt k i zero m2 left stands g sees result looped c f q kp l behind enough = λ regs from t x le has plan.
@@ -563,7 +616,7 @@ module _ (w : Setting) (n : ℕ) (ordered : Ascend w.plan_from w.plan w.plan_to)
     pub else_follows : (b : ElsePart) (s : Sight) (around : Around) (h : Here) (spot : Spot) (low : ℕ) (r : RegisterTable) (living : List ℕ)
         → (spot.levels ≡ h.levels) × (spot.innermost ≡ h.innermost) → Scene w n s → AreFound s.entities (scope_for living)
         → around.result ≡ h.result → (around.loops ≡ h.looped) × (around.breaks ≡ h.breaks)
-        → ElseCanDeclare w.unit living b → ElsePlaced AreRangedAsserts b → ElseTyped s around b → ElseKept w.plan s b → ElseHasNumbers b → low ≤ next_register r → next_register (after_else w.unit w.plan b r) ≤ w.registers
+        → ElseCanDeclare w.unit living b → ElsePlaced AreRangedAsserts AreRangedClauses b → ElseTyped s around b → ElseKept w.plan s b → ElseHasNumbers b → low ≤ next_register r → next_register (after_else w.unit w.plan b r) ≤ w.registers
         → DoSame h spot low r.bound living (else_with T b w.call (suc n)) (else_part w.unit w.plan spot r b)
     else_follows NoElse s around h spot low r living stands g sees result looped c f q kp l behind enough = nothing_does h spot low r.bound living
     else_follows (Else a) s around h spot low r living stands g sees result looped c f q kp l behind enough = statement_follows a s around h spot low r living stands g sees result looped c f q kp l behind enough
@@ -571,7 +624,7 @@ module _ (w : Setting) (n : ℕ) (ordered : Ascend w.plan_from w.plan w.plan_to)
     pub items_follow : (is : BlockItems) (s : Sight) (around : Around) (h : Here) (spot : Spot) (low : ℕ) (r : RegisterTable) (living : List ℕ)
         → (spot.levels ≡ h.levels) × (spot.innermost ≡ h.innermost) → Scene w n s → AreFound s.entities (scope_for living)
         → DeclarationsFound (declared_in is) (scope_for living) → AreThere w.unit (declared_in is) → around.result ≡ h.result → (around.loops ≡ h.looped) × (around.breaks ≡ h.breaks)
-        → ItemsCanDeclare w.unit living is → ItemsPlaced AreRangedAsserts is → ItemsTyped s around is → ItemsKept w.plan s is → HaveNumbers is → low ≤ next_register r → next_register (after_items w.unit w.plan is r) ≤ w.registers
+        → ItemsCanDeclare w.unit living is → ItemsPlaced AreRangedAsserts AreRangedClauses is → ItemsTyped s around is → ItemsKept w.plan s is → HaveNumbers is → low ≤ next_register r → next_register (after_items w.unit w.plan is r) ≤ w.registers
         → DoSame h spot low r.bound living (items_with T is w.call (suc n)) (items w.unit w.plan spot r is)
     items_follow NoItem s around h spot low r living stands g sees have local result looped c f q kp l behind enough = nothing_does h spot low r.bound living
     items_follow (Then (Declare ds) rest) s around h spot low r living stands g sees have local result looped c f q kp l behind enough =
@@ -598,5 +651,5 @@ module _ (w : Setting) (n : ℕ) (ordered : Ascend w.plan_from w.plan w.plan_to)
         let f1 = behind_grows w.unit r.bound w.plan [] r.kinds annots in
         let f2 = items_grow w.unit w.plan rest r1 in
         in_order_same h spot low r.bound living (checks annots) (items_with T rest w.call (suc n)) (assertions w.unit r.bound w.plan [] r.kinds annots) (items w.unit w.plan spot r1 rest)
-        (λ regs from t x le. assertions_follow w n h low r.bound annots f.0 r.kinds behind (omega (arith, enough, f2)) regs from t (kp.0 from.scope (sees_found s.entities living from.scope x.names sees)) x.standing x.beside)
+        (λ regs from t x le. assertions_follow w n h low r.bound annots f.0 r.kinds behind (omega (arith, enough, f2)) regs from t le (kp.0 from.scope (sees_found s.entities living from.scope x.names sees)) x.standing x.beside)
         (items_follow rest s around h spot low r1 living stands g sees have local result looped c.1 f.1 q.1 kp.1 l.1 (omega (arith, behind, f1)) enough)

@@ -4,10 +4,12 @@ use Rattle.std.proofs.lemmas.List.{append-nil, length-append}
 use Rattle.std.proofs.lemmas.Bool.Decides.{nat_tests}
 use Rattle.c_syntax.specs.Statements.{Declaration, Statement, Empty, Eval, Block, If, While, Do, For, Break, Continue, Return, ElsePart, NoElse, Else, ForFirst, NoFirst, First, BlockItem, Declare, Specify, Run, Asserts, BlockItems, NoItem, Then}
 use Rattle.c_syntax.specs.Statements.{Labelled, Switch, Cases, NoCase, AnotherCase}
-use Rattle.c_syntax.specs.Logic.{Annotation}
+use Rattle.c_syntax.specs.Expressions.{Expression}
+use Rattle.c_syntax.specs.Logic.{LogicTerm, ClauseBody, Raw, Holds, Value, Behaviors, Annotation}
 use Rattle.c_syntax.specs.Programs.{TranslationUnit}
 use Rattle.c_model.specs.Meaning.{declared_in, declared_first}
 use Rattle.c_model.specs.Formed.{number_of}
+use Rattle.c_model.specs.Predicates.{variant}
 use Rattle.mon_syntax.specs.declared.tree.MonType.TheVariants.{Ptr}
 use Rattle.mon_syntax.specs.Registers.{Bindings, RegisterTable, with_kinds, bound_with}
 use Rattle.mon_syntax.specs.Valid.{Types}
@@ -15,12 +17,13 @@ use Rattle.track_scopes.specs.Blocks.{with_pointer, entered, with_born}
 use Rattle.c_initialisers.specs.Translation.{declaration_temporaries}
 use Rattle.c_effects.specs.Effects.{any_temporaries}
 use Rattle.c_effects.specs.Full.{act_takes, takes}
-use Rattle.annot_simulation.specs.Code.{behind_assertions}
+use Rattle.annot_simulation.specs.Code.{behind_assertion, behind_assertions, valuation}
 use Rattle.annot_simulation.specs.Snapshots.{behind_snapshot}
-use Rattle.annot_simulation.proofs.Asserted.{behind_begins}
+use Rattle.annot_simulation.proofs.Asserted.{assertion_begins, behind_begins, valuation_begins}
 use Rattle.annot_simulation.proofs.CheckPrefixes.{snapshot_begins}
 use Rattle.c_simulation.specs.Keeping.{Kept}
-use Rattle.instrument.specs.Translation.{returned_temporaries, switch_temporaries, after_statement, after_cases, after_else, after_first, after_item, after_items, passed_label}
+use Rattle.instrument.specs.LoopClauses.{behind_invariant, behind_invariants, behind_variant}
+use Rattle.instrument.specs.Translation.{after_invariants, before_body, after_turn, returned_temporaries, switch_temporaries, after_statement, after_cases, after_else, after_first, after_item, after_items, passed_label}
 use Rattle.mon_syntax.specs.Registers.{register_of}
 use Rattle.annot_simulation.specs.Validity.{Begins}
 use Rattle.instrument.proofs.Typed.{begins_front, register_at, HasPointer, Aim, has_aim, aim_has}
@@ -49,6 +52,49 @@ pub entered_begins : (ds : List Declaration) (r : RegisterTable) → Begins r.ki
 entered_begins [] r = begins_itself r.kinds
 entered_begins (d ∷ ds) r = begins_then r.kinds (r.kinds ++ Ptr ∷ []) (entered ds (with_pointer d r)).kinds (begins_added r.kinds (Ptr ∷ [])) (entered_begins ds (with_pointer d r))
 
+-- invariants, and the variant
+pub invariants_begin : (p : TranslationUnit) (bound : Bindings) (plan : List Kept) (rs : Types) (annots : List Annotation) → Begins rs (behind_invariants p bound plan rs annots)
+invariants_begin p bound plan rs [] = begins_itself rs
+invariants_begin p bound plan rs (a ∷ annots) =
+    begins_then rs (behind_invariant p bound plan rs a a.body) (behind_invariants p bound plan (behind_invariant p bound plan rs a a.body) annots) (by a.body)
+    (invariants_begin p bound plan (behind_invariant p bound plan rs a a.body) annots)
+  where
+    assertion : Begins rs (behind_assertion p bound plan [] rs a)
+    assertion = let all = behind_assertion p bound plan [] rs a in assertion_begins all p bound plan [] rs a (begins_itself all)
+
+    by : (c : ClauseBody) → Begins rs (behind_invariant p bound plan rs a c)
+    by (Raw f) = assertion
+    by (Holds q) = assertion
+    by (Value t) = begins_itself rs
+    by (Behaviors names) = assertion
+
+pub variant_begins : (p : TranslationUnit) (bound : Bindings) (plan : List Kept) (rs : Types) (o : Option (Annotation × LogicTerm)) → Begins rs (behind_variant p bound plan rs o)
+variant_begins p bound plan rs None = begins_itself rs
+variant_begins p bound plan rs (Some v) = let all = (valuation p bound plan [] v.1 rs).used in valuation_begins p bound plan [] v.1 rs all (begins_itself all)
+
+-- the parts of a loop
+module _ (p : TranslationUnit) (plan : List Kept) (annots : List Annotation) where
+  pub invariants_first : (e : Option Expression) (r : RegisterTable) → Begins (after_invariants p plan annots r).kinds (before_body p plan annots e r).kinds
+  invariants_first e r =
+      let x = after_invariants p plan annots r in
+      let y = with_kinds (any_temporaries (takes p) e) x in
+      begins_then x.kinds y.kinds (before_body p plan annots e r).kinds (begins_added x.kinds (any_temporaries (takes p) e)) (variant_begins p r.bound plan y.kinds (variant annots))
+
+  pub condition_first : (e : Option Expression) (r : RegisterTable) → Begins (with_kinds (any_temporaries (takes p) e) (after_invariants p plan annots r)).kinds (before_body p plan annots e r).kinds
+  condition_first e r = variant_begins p r.bound plan (with_kinds (any_temporaries (takes p) e) (after_invariants p plan annots r)).kinds (variant annots)
+
+  pub body_begins : (e : Option Expression) (r : RegisterTable) → Begins r.kinds (before_body p plan annots e r).kinds
+  body_begins e r =
+      begins_then r.kinds (after_invariants p plan annots r).kinds (before_body p plan annots e r).kinds (invariants_begin p r.bound plan r.kinds annots) (invariants_first e r)
+
+  pub step_first : (behind : Option Expression) (r : RegisterTable) → Begins (with_kinds (any_temporaries (act_takes p) behind) r).kinds (after_turn p plan annots behind r).kinds
+  step_first behind r = variant_begins p r.bound plan (with_kinds (any_temporaries (act_takes p) behind) r).kinds (variant annots)
+
+  pub turn_begins : (behind : Option Expression) (r : RegisterTable) → Begins r.kinds (after_turn p plan annots behind r).kinds
+  turn_begins behind r =
+      let x = with_kinds (any_temporaries (act_takes p) behind) r in
+      begins_then r.kinds x.kinds (after_turn p plan annots behind r).kinds (begins_added r.kinds (any_temporaries (act_takes p) behind)) (step_first behind r)
+
 mutual
   pub statement_begins : (p : TranslationUnit) (plan : List Kept) (a : Statement) (r : RegisterTable) → Begins r.kinds (after_statement p plan a r).kinds
   statement_begins p plan (Empty at) r = begins_itself r.kinds
@@ -61,20 +107,23 @@ mutual
       let y = after_statement p plan a x in
       begins_then r.kinds x.kinds (after_else p plan b y).kinds (begins_added r.kinds (takes p e)) (begins_then x.kinds y.kinds (after_else p plan b y).kinds (statement_begins p plan a x) (else_begins p plan b y))
   statement_begins p plan (While at annots e a) r =
-      let x = with_kinds (takes p e) r in
-      begins_then r.kinds x.kinds (after_statement p plan a x).kinds (begins_added r.kinds (takes p e)) (statement_begins p plan a x)
+      let x = before_body p plan annots (Some e) r in
+      let y = after_statement p plan a x in
+      let z = after_turn p plan annots None y in
+      begins_then r.kinds x.kinds z.kinds (body_begins p plan annots (Some e) r) (begins_then x.kinds y.kinds z.kinds (statement_begins p plan a x) (turn_begins p plan annots None y))
   statement_begins p plan (Do at a e) r =
       let x = after_statement p plan a r in
       begins_then r.kinds x.kinds (x.kinds ++ takes p e) (statement_begins p plan a r) (begins_added x.kinds (takes p e))
   statement_begins p plan (For at annots first e behind a) r =
       let x = entered (declared_first first) r in
       let y = after_first p plan first x in
-      let z = with_kinds (any_temporaries (takes p) e) y in
+      let z = before_body p plan annots e y in
       let w = after_statement p plan a z in
-      begins_then r.kinds x.kinds (w.kinds ++ any_temporaries (act_takes p) behind) (entered_begins (declared_first first) r)
-      (begins_then x.kinds y.kinds (w.kinds ++ any_temporaries (act_takes p) behind) (first_begins p plan first x)
-      (begins_then y.kinds z.kinds (w.kinds ++ any_temporaries (act_takes p) behind) (begins_added y.kinds (any_temporaries (takes p) e))
-      (begins_then z.kinds w.kinds (w.kinds ++ any_temporaries (act_takes p) behind) (statement_begins p plan a z) (begins_added w.kinds (any_temporaries (act_takes p) behind)))))
+      let v = after_turn p plan annots behind w in
+      begins_then r.kinds x.kinds v.kinds (entered_begins (declared_first first) r)
+      (begins_then x.kinds y.kinds v.kinds (first_begins p plan first x)
+      (begins_then y.kinds z.kinds v.kinds (body_begins p plan annots e y)
+      (begins_then z.kinds w.kinds v.kinds (statement_begins p plan a z) (turn_begins p plan annots behind w))))
   statement_begins p plan (Break at) r = begins_itself r.kinds
   statement_begins p plan (Continue at) r = begins_itself r.kinds
   statement_begins p plan (Return at e) r = begins_added r.kinds (any_temporaries (returned_temporaries p) e)
@@ -172,17 +221,20 @@ module _ (ts : Types) where
         let y = with_kinds (takes p e) r in
         let z = after_statement p plan a y in
         else_keeps p plan c z b x g (statement_keeps p plan a y (begins_then z.kinds (after_else p plan c z).kinds ts (else_begins p plan c z) b) x g h)
-    statement_keeps p plan (While at annots e a) r b x g h = statement_keeps p plan a (with_kinds (takes p e) r) b x g h
+    statement_keeps p plan (While at annots e a) r b x g h =
+        let y = before_body p plan annots (Some e) r in
+        let z = after_statement p plan a y in
+        statement_keeps p plan a y (begins_then z.kinds (after_turn p plan annots None z).kinds ts (turn_begins p plan annots None z) b) x g h
     statement_keeps p plan (Do at a e) r b x g h = statement_keeps p plan a r (begins_front (after_statement p plan a r).kinds (takes p e) ts b) x g h
     statement_keeps p plan (For at annots first e behind a) r b x g h =
         let own = declared_first first in
         let y = entered own r in
         let z = after_first p plan first y in
-        let v = with_kinds (any_temporaries (takes p) e) z in
+        let v = before_body p plan annots e z in
         let w = after_statement p plan a v in
-        let last = begins_front w.kinds (any_temporaries (act_takes p) behind) ts b in
+        let last = begins_then w.kinds (after_turn p plan annots behind w).kinds ts (turn_begins p plan annots behind w) b in
         let third = begins_then v.kinds w.kinds ts (statement_begins p plan a v) last in
-        let second = begins_front z.kinds (any_temporaries (takes p) e) ts third in
+        let second = begins_then z.kinds v.kinds ts (body_begins p plan annots e z) third in
         let one = begins_then y.kinds z.kinds ts (first_begins p plan first y) second in
         statement_keeps p plan a v last x g (first_keeps p plan first y second x g (entered_keep x g own r one h))
     statement_keeps p plan (Break at) r b x g h = h

@@ -1,4 +1,4 @@
--- What is so at each label and at each assert of a statement, by what is in sight there.
+-- What is so at each label, at each assert and at the annotations of each loop of a statement, by what is in sight there.
 use Rattle.std.proofs.Common.{ℕ, List}
 use Rattle.c_syntax.specs.Logic.{Annotation}
 use Rattle.c_syntax.specs.Statements.{Statement, Block, If, While, Do, For, Labelled, Switch, Cases, NoCase, AnotherCase, ElsePart, NoElse, Else, BlockItem, Run, Asserts, BlockItems, NoItem, Then}
@@ -10,9 +10,9 @@ module _ (AtLabel : ℕ → Sight → Type 0) (AtAsserts : Sight → List Annota
     pub Throughout : Sight → Statement → Type 0
     Throughout s (Block at items) = ThroughoutItems (inner s) items
     Throughout s (If at e a b) = Throughout s a × ThroughoutElse s b
-    Throughout s (While at annots e a) = Throughout s a
+    Throughout s (While at annots e a) = AtAsserts s annots × Throughout s a
     Throughout s (Do at a e) = Throughout s a
-    Throughout s (For at annots first e step a) = Throughout (behind_first (inner s) first) a
+    Throughout s (For at annots first e step a) = AtAsserts (behind_first (inner s) first) annots × Throughout (behind_first (inner s) first) a
     Throughout s (Labelled at l a) = AtLabel l s × Throughout s a
     Throughout s (Switch at e cases) = ThroughoutCases s cases
     Throughout s _ = Unit {0}

@@ -1,5 +1,5 @@
 -- The code at passages of labels and that of a contract's checks is valid.
-use Rattle.std.proofs.Common.{◌≡◌, ◌⊎◌, inl, inr, ℕ, suc, ◌+◌, ◌<◌, ◌≤◌, Bool, true, false, cond, List, [], ◌∷◌, ◌++◌, length, Option, Some, None, refl, sym, subst, arith}
+use Rattle.std.proofs.Common.{◌≡◌, ◌⊎◌, inl, inr, ℕ, suc, ◌+◌, ◌<◌, ◌≤◌, Bool, true, false, cond, List, [], ◌∷◌, ◌++◌, length, Option, Some, None, refl, sym, ap, ◌∙◌, subst, arith}
 use Rattle.c_syntax.specs.declared.annotation.Kind.{Kind}
 use Rattle.c_syntax.specs.declared.annotation.Kind.TheVariants as kind
 use Rattle.c_syntax.specs.declared.expression.Use.{Use}
@@ -16,7 +16,7 @@ use Rattle.c_model.specs.Formed.{IsShortClause, tokens_of_predicate}
 use Rattle.c_model.specs.FormedContracts.{AreClausesOf, BehaviorsFormed, ContractFormed, IsBehaviorKind, IsCoverKind, IsOwnKind, NamesBehaviors}
 use Rattle.c_model.specs.PredicateTyping.{sort_of, sort_of_type}
 use Rattle.c_model.specs.TermRanges.{Seen, PredicateRanged}
-use Rattle.c_model.specs.TypedAnnotations.{AreAmong, BehaviorsTyped, ClausesTyped, ContractStands, CoversTyped}
+use Rattle.c_model.specs.TypedAnnotations.{AreAmong, BehaviorsTyped, ClausesTyped, ContractStands, CoversTyped, IsSaidBy}
 use Rattle.c_model.specs.TypedPredicates.{ClauseTyped}
 use Rattle.c_model.specs.TypedTrees.{Denotes}
 use Rattle.c_model.specs.Unranged.{AnnotationsRanged, ClauseRanged}
@@ -28,16 +28,16 @@ use Rattle.c_effects.specs.Expressions.{pointer_to}
 use Rattle.c_simulation.specs.Keeping.{Kept, is_pointer_sort}
 use Rattle.annot_code.specs.Checks.{annotations_of}
 use Rattle.annot_simulation.specs.ContractValidity.{AreCheckable, AreKeepable, ClauseWritable}
-use Rattle.annot_simulation.specs.Held.{Held}
+use Rattle.annot_simulation.specs.Held.{Held, sort_held, sorts_held}
 use Rattle.annot_simulation.specs.Numbered.{AreNumbered}
 use Rattle.annot_simulation.specs.Plan.{Entry, in_annotations, in_behaviors, in_clause, in_contract}
-use Rattle.annot_simulation.specs.Validity.{HasRegister, PredicateWritable}
+use Rattle.annot_simulation.specs.Validity.{PredicateWritable}
 use Rattle.annot_simulation.proofs.Found.{EachOf, past_label}
 use Rattle.instrument.specs.Limits.{ContractHasNumbers}
-use Rattle.instrument.proofs.ContractGood.{are_named}
+use Rattle.instrument.proofs.ContractGood.{are_named, no_value}
 use Rattle.instrument.proofs.Keepable.{KeepableAt}
 use Rattle.instrument.proofs.KeptRegisters.{PlanTyped}
-use Rattle.instrument.proofs.Writable.{CanStand, IsKeptTerm, left, right, predicate_writable, under_writable}
+use Rattle.instrument.proofs.Writable.{CanStand, IsKeptTerm, left, right, predicate_writable, typed_apart, under_writable}
 
 -- ---- passages of labels
 
@@ -68,7 +68,7 @@ module _ (p : TranslationUnit) (bound : Bindings) (plan : List Kept) (held : Lis
 
   -- a predicate that keeps its ranges, can be written and is short
   abbrev CanWrite : Predicate → Type 0
-  CanWrite q = PredicateRanged seen q × PredicateWritable p bound plan globals ts held q × (tokens_of_predicate q ≤ 400)
+  CanWrite q = PredicateRanged seen q × PredicateWritable p bound plan globals ts (sorts_held held) q × (tokens_of_predicate q ≤ 400)
 
   -- clauses of a kind, each a predicate
   abbrev KindCan : (Kind → Bool) → List Annotation → Type 0
@@ -129,13 +129,15 @@ module _ (p : TranslationUnit) (bound : Bindings) (plan : List Kept) (held : Lis
   module _ (views : Kind → AnnotationSight) (P : Kind → Entry → Type 0) where
     -- where clauses of such kinds stand
     abbrev StandBy : (Kind → Bool) → Type 0
-    StandBy is = (k : Kind) → is k ≡ true → CanStand p bound plan held globals ts (views k) (P k)
+    StandBy is = (k : Kind) → is k ≡ true → CanStand p bound plan globals ts (sorts_held held) (views k) (P k)
 
-    clause_can : (k : Kind) → CanStand p bound plan held globals ts (views k) (P k) → (b : ClauseBody) → ClauseTyped (views k) b → ClauseRanged seen b → IsShortClause b → EachOf (P k) (in_clause b) → (q : Predicate) × (b ≡ Holds q) × CanWrite q
-    clause_can k stand (Raw g) t r s h = absurd t
-    clause_can k stand (Holds q) t r s h = (q, refl, (r, predicate_writable p bound plan held globals ts (views k) (P k) stand q s.numbered t h, s.short))
-    clause_can k stand (logic.Value x) t r s h = absurd t
-    clause_can k stand (Behaviors names) t r s h = absurd t
+    clause_can : (k : Kind) → CanStand p bound plan globals ts (sorts_held held) (views k) (P k) → (b : ClauseBody) → (k ≡ kind.Variant → ⊥) → IsSaidBy k b → ClauseTyped (views k) b → ClauseRanged seen b → IsShortClause b
+        → EachOf (P k) (in_clause b) → (q : Predicate) × (b ≡ Holds q) × CanWrite q
+    clause_can k stand (Raw g) other said t r s h = absurd t
+    clause_can k stand (Holds q) other said t r s h =
+        (q, refl, (r, predicate_writable p bound plan globals ts (P k) (sorts_held held) (views k) stand q s.numbered t (inr (typed_apart (views k) q t)) h, s.short))
+    clause_can k stand (logic.Value x) other said t r s h = absurd (other (no_value k x said))
+    clause_can k stand (Behaviors names) other said t r s h = absurd t
 
     -- each entry is as all kinds want it
     abbrev EachKind : List Entry → Type 0
@@ -147,18 +149,19 @@ module _ (p : TranslationUnit) (bound : Bindings) (plan : List Kept) (held : Lis
     kind_right : (a b : List Entry) → EachKind (a ++ b) → EachKind b
     kind_right a b h k = right (P k) a b (h k)
 
-    clauses_can : (is : Kind → Bool) → StandBy is → (IsKind : Kind → Type 0) (annots : List Annotation) → ClausesTyped views annots → AnnotationsRanged seen annots → AreClausesOf IsKind IsShortClause annots → EachKind (in_annotations annots)
+    clauses_can : (is : Kind → Bool) → StandBy is → (IsKind : Kind → Type 0) → (IsKind kind.Variant → ⊥) → (annots : List Annotation) → ClausesTyped views annots → AnnotationsRanged seen annots → AreClausesOf IsKind IsShortClause annots
+        → EachKind (in_annotations annots)
         → KindCan is annots
-    clauses_can is stand IsKind [] t r s h = tt
-    clauses_can is stand IsKind (a ∷ rest) t r s h = (
-      λ e. clause_can a.kind (stand a.kind e) a.body t.0 r.0 s.0.body (kind_left (in_clause a.body) (in_annotations rest) h a.kind),
-      clauses_can is stand IsKind rest t.1 r.1 s.1 (kind_right (in_clause a.body) (in_annotations rest) h),
+    clauses_can is stand IsKind others [] t r s h = tt
+    clauses_can is stand IsKind others (a ∷ rest) t r s h = (
+      λ e. clause_can a.kind (stand a.kind e) a.body (λ same. others (subst IsKind same s.0.kind)) t.1 t.0 r.0 s.0.body (kind_left (in_clause a.body) (in_annotations rest) h a.kind),
+      clauses_can is stand IsKind others rest t.2 r.1 s.1 (kind_right (in_clause a.body) (in_annotations rest) h),
     )
 
     behaviors_can : (is : Kind → Bool) → StandBy is → (cs : List NamedBehavior) → BehaviorsTyped views cs → BehaviorsRanged seen cs → BehaviorsFormed IsShortClause cs → EachKind (in_behaviors cs) → BehaviorsCan is cs
     behaviors_can is stand [] t r s h = tt
     behaviors_can is stand (b ∷ cs) t r s h = (
-      clauses_can is stand IsBehaviorKind b.clauses t.0 r.0 s.0 (kind_left (in_annotations b.clauses) (in_behaviors cs) h),
+      clauses_can is stand IsBehaviorKind (λ i. i) b.clauses t.0 r.0 s.0 (kind_left (in_annotations b.clauses) (in_behaviors cs) h),
       behaviors_can is stand cs t.1 r.1 s.1 (kind_right (in_annotations b.clauses) (in_behaviors cs) h),
     )
 
@@ -178,10 +181,10 @@ module _ (p : TranslationUnit) (f : Function) (c : FunctionContract) (stands : C
   no_past None u e = cc
   no_past (Some l) u e = cc
 
-  first : CanStand p bound [] [] globals ts (views kind.Requires) (λ x. Unit {0})
-  first = record { object = objects; name = λ t x i. absurd i; kept = λ l a u e h. absurd (no_past l u e) }
+  first : CanStand p bound [] globals ts [] (views kind.Requires) (λ x. Unit {0})
+  first = record { object = objects; name = λ t x i. absurd i; binder = λ x i. absurd i; kept = λ l a u e h. absurd (no_past l u e) }
 
-  at_entry : (k : Kind) → is_requires k ≡ true ⊎ is_assumes k ≡ true → CanStand p bound [] [] globals ts (views k) (λ x. Unit {0})
+  at_entry : (k : Kind) → is_requires k ≡ true ⊎ is_assumes k ≡ true → CanStand p bound [] globals ts [] (views k) (λ x. Unit {0})
   at_entry kind.Requires h = first
   at_entry kind.Assumes h = first
   at_entry kind.Assert h = first
@@ -197,8 +200,8 @@ module _ (p : TranslationUnit) (f : Function) (c : FunctionContract) (stands : C
   entry_checkable =
       let count = length bs in
       let Wanted : Kind → Entry → Type 0 = λ k x. Unit {0} in
-      let requires : (k : Kind) → is_requires k ≡ true → CanStand p bound [] [] globals ts (views k) (λ x. Unit {0}) = λ k e. at_entry k (inl e) in
-      let assumes : (k : Kind) → is_assumes k ≡ true → CanStand p bound [] [] globals ts (views k) (λ x. Unit {0}) = λ k e. at_entry k (inr e) in
+      let requires : (k : Kind) → is_requires k ≡ true → CanStand p bound [] globals ts [] (views k) (λ x. Unit {0}) = λ k e. at_entry k (inl e) in
+      let assumes : (k : Kind) → is_assumes k ≡ true → CanStand p bound [] globals ts [] (views k) (λ x. Unit {0}) = λ k e. at_entry k (inr e) in
       let first_own = of_kind is_requires None c.clauses in
       let assumed = of_behaviors is_assumes 0 bs in
       let required = of_behaviors is_requires 0 bs in
@@ -207,7 +210,7 @@ module _ (p : TranslationUnit) (f : Function) (c : FunctionContract) (stands : C
       numbered p bound [] [] seen globals ts bs count (entry_checks c) numbers.0
       (both p bound [] [] seen globals ts bs count first_own (assumed ++ (required ++ (complete ++ disjoint)))
       (of_clauses p bound [] [] seen globals ts bs count is_requires None (λ k e. absurd cc) c.clauses
-      (clauses_can p bound [] [] seen globals ts bs count views Wanted is_requires requires IsOwnKind c.clauses stands.typed.clauses own formed.clauses (λ k x i. tt)))
+      (clauses_can p bound [] [] seen globals ts bs count views Wanted is_requires requires IsOwnKind (λ i. i) c.clauses stands.typed.clauses own formed.clauses (λ k x i. tt)))
       (both p bound [] [] seen globals ts bs count assumed (required ++ (complete ++ disjoint))
       (of_all_behaviors p bound [] [] seen globals ts bs count is_assumes 0 bs (omega arith)
       (behaviors_can p bound [] [] seen globals ts bs count views Wanted is_assumes assumes bs stands.typed.behaviors others formed.behaviors (λ k x i. tt)))
@@ -218,18 +221,19 @@ module _ (p : TranslationUnit) (f : Function) (c : FunctionContract) (stands : C
       (of_covers p bound [] [] seen globals ts bs count is_disjoint c.covers formed.covers stands.typed.covers)))))
 
   -- at the end the terms of the contract are kept, and what the function gives has a name
-  module _ (plan : List Kept) (held : List Held) (result : is_void f.result ≡ false → HasRegister held ts result_number (is_pointer_sort (sort_of_type f.result))) where
+  module _ (plan : List Kept) (held : List Held) (result : is_void f.result ≡ false → sort_held result_number (sorts_held held) ≡ Some (is_pointer_sort (sort_of_type f.result))) where
     abbrev HasOwn : Entry → Type 0
-    HasOwn = IsKeptTerm p bound plan held globals ts
+    HasOwn = IsKeptTerm p bound plan globals ts
 
-    last : CanStand p bound plan held globals ts (views kind.Ensures) HasOwn
+    last : CanStand p bound plan globals ts (sorts_held held) (views kind.Ensures) HasOwn
     last = record {
       object = objects;
-      name = λ t x i. subst (λ d. HasRegister held ts d (is_pointer_sort (sort_of t))) (sym i.0) (subst (λ (t : Option PlainType). HasRegister held ts result_number (is_pointer_sort (sort_of t))) (sym i.1) (result i.2));
+      name = λ t x i. ap (λ d. sort_held d (sorts_held held)) i.0 ∙ result i.2 ∙ ap (λ t. Some (is_pointer_sort (sort_of t))) (sym i.1);
+      binder = λ x i. absurd i;
       kept = λ l a u e h. h;
     }
 
-    at_end : (k : Kind) → is_ensures k ≡ true → CanStand p bound plan held globals ts (views k) HasOwn
+    at_end : (k : Kind) → is_ensures k ≡ true → CanStand p bound plan globals ts (sorts_held held) (views k) HasOwn
     at_end kind.Ensures e = last
     at_end kind.Requires e = absurd cc
     at_end kind.Assumes e = absurd cc
@@ -248,6 +252,6 @@ module _ (p : TranslationUnit) (f : Function) (c : FunctionContract) (stands : C
         numbered p bound plan held seen globals ts bs count (leave_checks c) numbers.1
         (both p bound plan held seen globals ts bs count (of_kind is_ensures None c.clauses) (of_behaviors is_ensures 0 bs)
         (of_clauses p bound plan held seen globals ts bs count is_ensures None (λ k e. absurd cc) c.clauses
-        (clauses_can p bound plan held seen globals ts bs count views (λ k. HasOwn) is_ensures at_end IsOwnKind c.clauses stands.typed.clauses own formed.clauses (λ k. mine)))
+        (clauses_can p bound plan held seen globals ts bs count views (λ k. HasOwn) is_ensures at_end IsOwnKind (λ i. i) c.clauses stands.typed.clauses own formed.clauses (λ k. mine)))
         (of_all_behaviors p bound plan held seen globals ts bs count is_ensures 0 bs (omega arith)
         (behaviors_can p bound plan held seen globals ts bs count views (λ k. HasOwn) is_ensures at_end bs stands.typed.behaviors others formed.behaviors (λ k. theirs))))

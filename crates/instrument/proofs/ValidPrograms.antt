@@ -70,7 +70,7 @@ use Rattle.instrument.proofs.Depths.{deep}
 use Rattle.instrument.proofs.ValidStatements.{AreAround, inside_contract, items_small, items_valid, outside_all}
 use Rattle.instrument.proofs.ValidAsserts.{pointer_has}
 use Rattle.instrument.proofs.ValidContracts.{are_keepable, entry_checkable, leave_checkable}
-use Rattle.instrument.proofs.ValidResults.{MainGives, deep_flagged, deep_last, flagged_valid, held_has, last_valid, main_gives, own_objects}
+use Rattle.instrument.proofs.ValidResults.{MainGives, deep_flagged, deep_last, flagged_valid, held_sorted, held_typed, last_valid, main_gives, own_objects}
 use Rattle.instrument.proofs.Keepable.{AtStart, OwnSight}
 use Rattle.instrument.proofs.KeptRegisters.{PlanTyped, flags_are_typed, kept_registers, plan_is_typed, result_typed}
 use Rattle.instrument.specs.Limits.{ContractHasNumbers}
@@ -242,6 +242,9 @@ module _ (p : TranslationUnit) (q : IsTypedProgram p) where
     planned : PlanTyped ts plan
     planned = plan_is_typed ts f (own_begin p fr f)
 
+    many : IsNumber (length ts)
+    many = let small = part.few in omega (arith, small)
+
     -- each parameter that has a name is in sight
     sees_parameters : (ds : List Declaration) (s : Sight) → AreOwn ds → HavePointers ts start.bound ds → Sees p ts start.bound part.sight.functions s → Sees p ts start.bound part.sight.functions (with_parameters s ds)
     sees_parameters [] s o h v = v
@@ -302,8 +305,8 @@ module _ (p : TranslationUnit) (q : IsTypedProgram p) where
           let shallow = part.shallow in
           let born = begins_then begins.kinds (after_items p plan part.items begins).kinds ts (items_begin p plan part.items begins) within in
           alive_valid (count_of_globals p) gs ts (result_of f.result) ls p (next_register r) own (items p plan deeper begins part.items)
-          (items_small p plan gs ts f.result out part.sight.functions called (structs_fit p.structs q.structs) q.texts planned register part.items sight (around_body f.result) v.knows.structs_are part.typed) (entered_from ts own r born)
-          (items_valid p plan gs ts f.result out part.sight.functions called (structs_fit p.structs q.structs) q.texts planned register part.items sight (around_body f.result) ls deeper
+          (items_small p plan gs ts f.result out part.sight.functions called (structs_fit p.structs q.structs) q.texts planned many register part.items sight (around_body f.result) v.knows.structs_are part.typed) (entered_from ts own r born)
+          (items_valid p plan gs ts f.result out part.sight.functions called (structs_fit p.structs q.structs) q.texts planned many register part.items sight (around_body f.result) ls deeper
           (record { inside = point_born ts (next_register r) own inside (entered_from ts own r born) point; between = tt; outside = tt; result_is = refl })
           begins (sees_later p ts part.sight.functions r begins sight (λ x g h. entered_keep ts x g own r born h) v) refl around (entered_have ts own r born) part.formed part.typed part.planned.body part.numbers part.letters
           (omega (arith, shallow)) within)
@@ -329,7 +332,7 @@ module _ (p : TranslationUnit) (q : IsTypedProgram p) where
     pre_valid : Begins pre.kinds ts → Are (snapshot p start.bound None start.kinds plan)
     pre_valid b =
         (snapshots_are_valid p start.bound (count_of_globals p) gs ts (result_of f.result) [] None plan start.kinds
-        (are_keepable p start.bound (count_of_globals p) ts (AtStart p f sight) start_objects None plan part.planned.begins planned) b).statements
+        (are_keepable p start.bound (count_of_globals p) ts (AtStart p f sight) start_objects None plan part.planned.begins planned) many (λ i le few. refl) b).statements
 
     -- ---- a contract
 
@@ -379,7 +382,7 @@ module _ (p : TranslationUnit) (q : IsTypedProgram p) where
       entry_valid : AreValid (count_of_globals p) gs ts (result_of f.result) [] (checks_code p pre.bound [] [] c.behaviors h None pre.kinds (entry_checks c))
       entry_valid =
           checks_are_valid p pre.bound [] [] (seen_result f.result) (count_of_globals p) gs ts (result_of f.result) [] c.behaviors h (entry_checks c) pre.kinds
-          (entry_checkable p f c stands formed (seen_result f.result) ranged.0 ranged.1 h numbers (count_of_globals p) ts pre.bound objects) flags within_entry
+          (entry_checkable p f c stands formed (seen_result f.result) ranged.0 ranged.1 h numbers (count_of_globals p) ts pre.bound objects) many (λ x h e. absurd cc) (λ i le few. refl) flags within_entry
 
       contract_planned : (x : Entry) → IsIn x (in_contract (Some c)) → HasRegisters plan ts x.1 (entry_types (is_pointer_term x.1) x.1)
       contract_planned x i = kept_registers ts plan planned x (part.planned.contract x (subst (λ o. IsIn x (in_contract o)) (sym is) i))
@@ -387,7 +390,8 @@ module _ (p : TranslationUnit) (q : IsTypedProgram p) where
       leave_valid : AreValid (count_of_globals p) gs ts (result_of f.result) [] (leave_code p pre.bound plan (held_of f) h (at_leave p fr f c) c)
       leave_valid =
           checks_are_valid p pre.bound plan (held_of f) (seen_result f.result) (count_of_globals p) gs ts (result_of f.result) [] c.behaviors h (leave_checks c) (at_leave p fr f c)
-          (leave_checkable p f c stands formed (seen_result f.result) ranged.0 ranged.1 h numbers (count_of_globals p) ts pre.bound objects plan (held_of f) (held_has ts r f.result part.gives result_there) contract_planned) flags
+          (leave_checkable p f c stands formed (seen_result f.result) ranged.0 ranged.1 h numbers (count_of_globals p) ts pre.bound objects plan (held_of f) (held_sorted r f.result part.gives) contract_planned) many
+          (held_typed ts r f.result part.gives result_there) (λ i le few. refl) flags
           (subst (λ k. Begins (behind_leave p pre.bound plan (held_of f) h (at_leave p fr f c) c) k) whole (begins_itself (behind_leave p pre.bound plan (held_of f) h (at_leave p fr f c) c)))
 
       register : (x : ℕ) → Some r ≡ Some x → slice_get ts x ≡ Some (value_type f.result)

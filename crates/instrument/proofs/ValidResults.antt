@@ -30,7 +30,8 @@ use Rattle.c_simulation.specs.Keeping.{is_pointer_sort}
 use Rattle.track_scopes.specs.Blocks.{entered}
 use Rattle.annot_simulation.specs.ContractCode.{all_flagged, flags_from}
 use Rattle.annot_simulation.specs.ContractValidity.{AreFlags}
-use Rattle.annot_simulation.specs.Validity.{Begins, HasRegister}
+use Rattle.annot_simulation.specs.Held.{Held, sort_held, sorts_held}
+use Rattle.annot_simulation.specs.Validity.{Begins, HeldTyped}
 use Rattle.instrument.specs.Translation.{index_of_main, last_return, result_held, result_of}
 use Rattle.instrument.proofs.KnownContracts.{result_is}
 use Rattle.instrument.proofs.Tables.{HavePointers, entered_have, entered_keep}
@@ -38,9 +39,12 @@ use Rattle.instrument.proofs.Typed.{Aim, HasPointer, Knows, Reaches, count_of_gl
 
 -- ---- the result
 
--- a register whose type is that of what is given
-HeldAs : Types → ℕ → PlainType → Type 0
-HeldAs ts r t = slice_get ts r ≡ Some (value_type t) → is_void t ≡ false → HasRegister (result_held r (result_of t)) ts result_number (is_pointer_sort (sort_of_type t))
+-- what is given has its sort, and a register of its type
+SortedAs : ℕ → PlainType → Type 0
+SortedAs r t = is_void t ≡ false → sort_held result_number (sorts_held (result_held r (result_of t))) ≡ Some (is_pointer_sort (sort_of_type t))
+
+TypedAs : Types → ℕ → PlainType → Type 0
+TypedAs ts r t = slice_get ts r ≡ Some (value_type t) → HeldTyped ts (result_held r (result_of t))
 
 number_sorted : (k : CInt) → checking.same_type (register_type k) Ptr ≡ false
 number_sorted c.I8 = refl
@@ -53,11 +57,20 @@ number_sorted c.I64 = refl
 number_sorted c.U64 = refl
 
 -- it is `\result`
-pub held_has : (ts : Types) (r : ℕ) (t : PlainType) → IsResult t → slice_get ts r ≡ Some (value_type t) → is_void t ≡ false → HasRegister (result_held r (result_of t)) ts result_number (is_pointer_sort (sort_of_type t))
-unfolding HeldAs
-held_has ts r t h = result_is (HeldAs ts r) t h (λ typed e. absurd cc)
-    (λ k typed e. record { entry = record { number = result_number; register = r; kind = register_type k }; is = refl; sorted = number_sorted k; typed = typed })
-    (λ u typed e. record { entry = record { number = result_number; register = r; kind = Ptr }; is = refl; sorted = refl; typed = typed })
+pub held_sorted : (r : ℕ) (t : PlainType) → IsResult t → is_void t ≡ false → sort_held result_number (sorts_held (result_held r (result_of t))) ≡ Some (is_pointer_sort (sort_of_type t))
+unfolding SortedAs
+held_sorted r t h = result_is (SortedAs r) t h (λ e. absurd cc) (λ k e. ap Some (number_sorted k)) (λ u e. refl)
+
+one_typed : (ts : Types) (r : ℕ) (k : MonType) → slice_get ts r ≡ Some k → HeldTyped ts (record { number = result_number; register = r; kind = k } ∷ [])
+one_typed ts r k typed x h e = by (nat_eq result_number x) e
+  where
+    by : (b : Bool) → cond b (Some (record { number = result_number; register = r; kind = k })) None ≡ Some h → slice_get ts h.register ≡ Some h.kind
+    by true e = let same : record { number = result_number; register = r; kind = k } ≡ h = cc in subst (λ (h : Held). slice_get ts h.register ≡ Some h.kind) same typed
+    by false e = absurd cc
+
+pub held_typed : (ts : Types) (r : ℕ) (t : PlainType) → IsResult t → slice_get ts r ≡ Some (value_type t) → HeldTyped ts (result_held r (result_of t))
+unfolding TypedAs
+held_typed ts r t h = result_is (TypedAs ts r) t h (λ typed x g e. absurd cc) (λ k typed. one_typed ts r (register_type k) typed) (λ u typed. one_typed ts r Ptr typed)
 
 ReturnedAs : ℕ → List Signature → Types → Labels → ℕ → PlainType → Type 0
 ReturnedAs g gs ts ls r t = slice_get ts r ≡ Some (value_type t) → AreStatements g gs ts (result_of t) ls (last_return r (result_of t))

@@ -31,6 +31,10 @@ use Rattle.c_effects.specs.Letters.{Any, ActHasLetters, ValueHasLetters}
 use Rattle.instrument.specs.Limits.{HasNumbers, CasesHaveNumbers, ElseHasNumbers, FirstHasNumbers, HaveNumbers}
 use Rattle.c_effects.specs.Expressions.{register_type, value_type, before, one, set}
 use Rattle.annot_simulation.specs.Code.{assertions}
+use Rattle.annot_simulation.specs.Numbered.{AreNumbered}
+use Rattle.c_syntax.specs.Logic.{LogicTerm, Annotation}
+use Rattle.c_model.specs.Predicates.{variant}
+use Rattle.quantifier_loops.specs.Upward.{tried_label}
 use Rattle.annot_simulation.specs.Snapshots.{snapshot}
 use Rattle.c_initialisers.specs.Translation.{initial_temporaries, declaration_temporaries, initialise, initialise_all, initialise_local, may_be_born}
 use Rattle.c_effects.specs.Effects.{block_of, any_temporaries}
@@ -38,6 +42,8 @@ use Rattle.c_effects.specs.Full.{act, act_takes, condition_result, prepare, take
 use Rattle.c_effects.specs.Full as full
 use Rattle.instrument.specs.Translation.{given_register, leaving, passed_label, way_out}
 use Rattle.instrument.specs.Translation.{Spot, leave_where_zero, returned_temporaries, switch_temporaries, returned, loop, with_variables, after_statement, after_cases, after_else, after_first, after_item, after_items, statement}
+use Rattle.instrument.specs.LoopClauses.{behind_invariants, behind_variant, invariants_code, variant_compared, variant_kept, variant_value}
+use Rattle.instrument.specs.Translation.{after_invariants, before_body, after_turn, front_of, kept_of, compared_of, turns_of}
 use Rattle.instrument.specs.Translation.{act_if_any, test, test_if_any, case_label, test_case, tests_of_cases, search, where_reached, others_in_block, next_cases, blocks_of_cases}
 use Rattle.c_simulation.specs.Keeping.{Kept}
 use Rattle.c_simulation.specs.Labels.{end_label, next_label, leave_label}
@@ -45,7 +51,10 @@ use Rattle.instrument.specs.Translation.{else_part, first_part, items, result_of
 use Rattle.instrument.specs.Translation as target
 use Rattle.instrument.proofs.Names.{IsNumber, end_is_free, next_is_free, case_is_free, ends_differ, nexts_differ, same_bytes}
 use Rattle.instrument.proofs.Typed.{Knows, small_constant, index_constant, begins_left, begins_right, begins_front, register_at, count_of_globals, block_points, known_small}
-use Rattle.instrument.proofs.Tables.{begins_then, statement_begins, cases_begin, else_begins, first_begins, items_begin, HavePointers, pointers_front, pointers_back, pointers_kept, entered_keep, entered_have, statement_keeps, items_keep}
+use Rattle.instrument.proofs.RangedTrees.{AreRangedClauses}
+use Rattle.instrument.proofs.ValidClauses.{compared_valid, invariants_valid, is_variant, value_valid, wanted_valid}
+use Rattle.instrument.proofs.Tables.{body_begins, condition_first, invariants_first, step_first, turn_begins, begins_then, statement_begins, cases_begin, else_begins, first_begins, items_begin, HavePointers, pointers_front, pointers_back}
+use Rattle.instrument.proofs.Tables.{pointers_kept, entered_keep, entered_have, statement_keeps, items_keep}
 use Rattle.instrument.proofs.Tables.{first_keeps, AllPoint, point_both}
 use Rattle.instrument.proofs.Tables.{entered_from, point_born}
 use Rattle.instrument.proofs.ValidAsserts.{assertions_valid, pointer_has}
@@ -61,7 +70,8 @@ use Rattle.annot_simulation.proofs.ValidParts.{before_valid}
 use Rattle.annot_simulation.specs.Validity.{Begins}
 use Rattle.instrument.proofs.ValidInitialisers.{initialise_valid, initial_letters}
 use Rattle.instrument.proofs.ValidBlocks.{Sees, AreSmall, sees_inner, sees_one, sees_behind, sees_later, deaths_valid, alive_valid}
-use Rattle.instrument.proofs.Depths.{no_step_test, no_step_test_if_any, no_step_act_if_any}
+use Rattle.instrument.proofs.Depths.{no_step_test, no_step_test_if_any, no_step_act_if_any, no_step_invariants, no_step_kept, no_step_compared}
+use Rattle.instrument.proofs.FullDepths.{no_step_before}
 use Rattle.instrument.proofs.Numbers.{structs_behind}
 
 -- ---- labels
@@ -75,6 +85,7 @@ pub record AreAround (out : Option ℕ) (ls : Labels) (levels innermost : ℕ) (
   pub new_end : (m : ℕ) → levels < m → IsNumber m → has_label ls (end_label m) ≡ false
   pub new_next : (m : ℕ) → levels < m → IsNumber m → has_label ls (next_label m) ≡ false
   pub no_case : (m : ℕ) → has_label ls (case_label m) ≡ false
+  pub no_tried : (m : ℕ) → has_label ls (tried_label m) ≡ false
   pub end_among : breaks ≡ true → has_label ls (end_label levels) ≡ true
   pub next_among : loops ≡ true → has_label ls (next_label innermost) ≡ true
   pub out_among : (r : ℕ) → out ≡ Some r → has_label ls leave_label ≡ true
@@ -84,6 +95,7 @@ outside_all innermost = record {
   new_end = λ m lt le. refl;
   new_next = λ m lt le. refl;
   no_case = λ m. refl;
+  no_tried = λ m. refl;
   end_among = λ e. absurd cc;
   next_among = λ e. absurd cc;
   out_among = λ r e. absurd cc;
@@ -95,6 +107,7 @@ inside_contract r innermost = record {
   new_end = λ m lt le. refl;
   new_next = λ m lt le. refl;
   no_case = λ m. refl;
+  no_tried = λ m. refl;
   end_among = λ e. absurd cc;
   next_among = λ e. absurd cc;
   out_among = λ r e. refl;
@@ -124,13 +137,14 @@ module _ (out : Option ℕ) (ls : Labels) (levels innermost : ℕ) (breaks loops
     new_next = λ m lt le.
         neither (bytes_eq (next_label m) (next_label inner_level)) (has_label ended (next_label m)) (nexts_differ m inner_level le (omega (arith, lt, le)) (λ e. omega (arith, e, lt))) (h.new_next m (omega (arith, lt)) le);
     no_case = h.no_case;
+    no_tried = h.no_tried;
     end_among = λ t. own_end;
     next_among = λ t. ap (λ b. b || has_label ended (next_label inner_level)) (same_bytes (next_label inner_level));
     out_among = h.out_among;
   }
 
   around_items : AreAround out ended inner_level innermost true loops
-  around_items = record { new_end = later_end; new_next = λ m lt le. h.new_next m (omega (arith, lt)) le; no_case = h.no_case; end_among = λ t. own_end; next_among = h.next_among; out_among = h.out_among }
+  around_items = record { new_end = later_end; new_next = λ m lt le. h.new_next m (omega (arith, lt)) le; no_case = h.no_case; no_tried = h.no_tried; end_among = λ t. own_end; next_among = h.next_among; out_among = h.out_among }
 
 -- ---- statements
 
@@ -143,7 +157,7 @@ pub record Points (ts : Types) (out : Option ℕ) (spot : Spot) : Type 0 where
 
 module _ (p : TranslationUnit) (plan : List Kept) (gs : List Signature) (ts : Types) (result : PlainType) (out : Option ℕ) (functions : List Known)
     (calls : (s : Sight) → s.names ≡ p.names → s.texts ≡ p.texts → s.functions ≡ functions → CallsValid p gs ts s)
-    (fits : StructsFit p.structs) (texts : TextsAreBytes p.texts) (planned : PlanTyped ts plan) (given_there : (r : ℕ) → out ≡ Some r → slice_get ts r ≡ Some (value_type result)) where
+    (fits : StructsFit p.structs) (texts : TextsAreBytes p.texts) (planned : PlanTyped ts plan) (many : IsNumber (length ts)) (given_there : (r : ℕ) → out ≡ Some r → slice_get ts r ≡ Some (value_type result)) where
   abbrev Are : Labels → MonStatements → Type 0
   Are ls a = AreStatements (count_of_globals p) gs ts (result_of result) ls a
 
@@ -210,16 +224,84 @@ module _ (p : TranslationUnit) (plan : List Kept) (gs : List Signature) (ts : Ty
   -- ---- loops
 
   module _ (ls : Labels) (levels innermost : ℕ) (breaks loops : Bool) (h : AreAround out ls levels innermost breaks loops) where
-    loop_valid : (front body behind : MonStatements) → IsNumber (levels + 1) → has_no_step front ≡ true → has_no_step behind ≡ true → Are (ended out ls levels innermost breaks loops h) front
-        → Are (in_body out ls levels innermost breaks loops h) body → Are (ended out ls levels innermost breaks loops h) behind → Are ls (one (loop (levels + 1) front body behind))
-    loop_valid front body behind le f g front_valid body_valid behind_valid = (
+    loop_valid : (front kept body behind : MonStatements) → IsNumber (levels + 1) → has_no_step front ≡ true → has_no_step kept ≡ true → has_no_step behind ≡ true → Are (ended out ls levels innermost breaks loops h) front
+        → Are (ended out ls levels innermost breaks loops h) kept → Are (in_body out ls levels innermost breaks loops h) body → Are (ended out ls levels innermost breaks loops h) behind → Are ls (one (loop (levels + 1) front kept body behind))
+    loop_valid front kept body behind le f k g front_valid kept_valid body_valid behind_valid = (
       (
         end_is_free (levels + 1) le,
         h.new_end (levels + 1) (omega arith) le,
-        ((f, g, front_valid, ((next_is_free (levels + 1) le, h.new_next (levels + 1) (omega arith) le, body_valid), behind_valid)), tt),
+        (
+          (
+            f,
+            no_step_before kept (tree.Then (tree.Labelled body (next_label (levels + 1))) behind) k g,
+            front_valid,
+            and_then (ended out ls levels innermost breaks loops h) kept (tree.Then (tree.Labelled body (next_label (levels + 1))) behind) kept_valid
+                ((next_is_free (levels + 1) le, h.new_next (levels + 1) (omega arith) le, body_valid), behind_valid),
+          ),
+          tt,
+        ),
       ),
       tt,
     )
+
+  -- ---- the annotations of loops
+
+  -- the variant is kept where the registers are typed that its code takes, and compared after them
+  kept_valid : (ls : Labels) (outside : (i : ℕ) → has_label ls (tried_label i) ≡ false) (s : Sight) (r : RegisterTable) (v : See r s) (annots : List Annotation) → AssertsWritable plan s annots → AreRangedClauses annots → AreNumbered annots
+      → (rs : Types) (o : Option (Annotation × LogicTerm)) → variant annots ≡ o → Begins (behind_variant p r.bound plan rs o) ts → Are ls (variant_kept p r.bound plan rs o)
+  kept_valid ls outside s r v annots w c n rs None e b = tt
+  kept_valid ls outside s r v annots w c n rs (Some x) e b =
+      let knows = subst (Knows p ts r.bound) (sym w.here) v.knows in
+      let is = is_variant p plan (count_of_globals p) ts w.view r.bound annots x e c w.typed (λ x i. kept_registers ts plan planned x (w.planned x i)) n in
+      wanted_valid (count_of_globals p) gs ts (result_of result) ls x.0 x.1 (variant_value p r.bound plan rs x) is.numbered
+      (value_valid p ts r.bound plan w.view knows w.alone w.unbound many gs (result_of result) ls outside rs x.1 is.term is.few is.integer is.typed is.kept is.ranged b)
+
+  compared_is_valid : (ls : Labels) (outside : (i : ℕ) → has_label ls (tried_label i) ≡ false) (s : Sight) (r after : RegisterTable) (v : See r s) (u : See after s) (annots : List Annotation) → AssertsWritable plan s annots
+      → AreRangedClauses annots → AreNumbered annots → (rs js : Types) (o : Option (Annotation × LogicTerm)) → variant annots ≡ o → Begins (behind_variant p r.bound plan rs o) ts → Begins (behind_variant p after.bound plan js o) ts
+      → Are ls (variant_compared p r.bound after.bound plan rs js o)
+  compared_is_valid ls outside s r after v u annots w c n rs js None e b d = tt
+  compared_is_valid ls outside s r after v u annots w c n rs js (Some x) e b d =
+      let before_knows = subst (Knows p ts r.bound) (sym w.here) v.knows in
+      let after_knows = subst (Knows p ts after.bound) (sym w.here) u.knows in
+      let first = is_variant p plan (count_of_globals p) ts w.view r.bound annots x e c w.typed (λ x i. kept_registers ts plan planned x (w.planned x i)) n in
+      let is = is_variant p plan (count_of_globals p) ts w.view after.bound annots x e c w.typed (λ x i. kept_registers ts plan planned x (w.planned x i)) n in
+      let old = value_valid p ts r.bound plan w.view before_knows w.alone w.unbound many gs (result_of result) ls outside rs x.1 first.term first.few first.integer first.typed first.kept first.ranged b in
+      compared_valid (count_of_globals p) gs ts (result_of result) ls x.0 x.1 (variant_value p r.bound plan rs x).value (variant_value p after.bound plan js x) is.numbered old.value_type
+      (value_valid p ts after.bound plan w.view after_knows w.alone w.unbound many gs (result_of result) ls outside js x.1 is.term is.few is.integer is.typed is.kept is.ranged d)
+
+  -- the turns of a `while` or a `for`
+  module _ (ls : Labels) (levels innermost : ℕ) (breaks loops : Bool) (h : AreAround out ls levels innermost breaks loops) (s : Sight) (annots : List Annotation) (w : AssertsWritable plan s annots) (c : AreRangedClauses annots)
+      (n : AreNumbered annots) where
+    abbrev around_test : Labels
+    around_test = ended out ls levels innermost breaks loops h
+
+    outside_tries : (i : ℕ) → has_label around_test (tried_label i) ≡ false
+    outside_tries = h.no_tried
+
+    turns_valid : (r after : RegisterTable) (v : See r s) (u : See after s) (e step : Option Expression) (body : MonStatements) → IsNumber (levels + 1) → WhereAny (IsFull p.structs) e → WhereAny (IsCondition s) e → Any ValueHasLetters e
+        → WhereAny (IsFull p.structs) step → WhereAny (WellTyped s) step → Any ActHasLetters step → Within (before_body p plan annots e r) → Within (after_turn p plan annots step after)
+        → Are (in_body out ls levels innermost breaks loops h) body → Are ls (turns_of p plan annots (levels + 1) r after e step body)
+    turns_valid r after v u e step body le ef eq el sf sq sl b d body_valid =
+        let tested = after_invariants p plan annots r in
+        let rs = behind_invariants p r.bound plan r.kinds annots ++ any_temporaries (takes p) e in
+        let js = after.kinds ++ any_temporaries (act_takes p) step in
+        let tests = test_if_any p r.bound tested.kinds (levels + 1) e in
+        let act_code = act_if_any p after.bound after.kinds step in
+        let knows = subst (Knows p ts r.bound) (sym w.here) v.knows in
+        let with_condition : Begins rs ts = begins_then rs (before_body p plan annots e r).kinds ts (condition_first p plan annots e r) b in
+        let with_invariants : Begins tested.kinds ts = begins_then tested.kinds (before_body p plan annots e r).kinds ts (invariants_first p plan annots e r) b in
+        let with_step : Begins js ts = begins_then js (after_turn p plan annots step after).kinds ts (step_first p plan annots step after) d in
+        loop_valid ls levels innermost breaks loops h (front_of p plan annots (levels + 1) r e) (kept_of p plan annots r e) body (before act_code (compared_of p plan annots r e after step)) le
+        (no_step_before (invariants_code p r.bound plan r.kinds annots) tests (no_step_invariants p r.bound plan r.kinds annots) (no_step_test_if_any p r.bound tested.kinds (levels + 1) e))
+        (no_step_kept p r.bound plan rs (variant annots))
+        (no_step_before act_code (compared_of p plan annots r e after step) (no_step_act_if_any p after.bound after.kinds step) (no_step_compared p r.bound after.bound plan rs js (variant annots)))
+        (and_then around_test (invariants_code p r.bound plan r.kinds annots) tests
+        (invariants_valid p ts r.bound plan w.view knows w.alone w.unbound many gs (result_of result) around_test outside_tries r.kinds annots c w.typed (λ x i. kept_registers ts plan planned x (w.planned x i)) n with_invariants)
+        (test_if_any_at s tested v around_test (levels + 1) e (own_end out ls levels innermost breaks loops h) ef eq el with_condition))
+        (kept_valid around_test outside_tries s r v annots w c n rs (variant annots) refl b)
+        body_valid
+        (and_then around_test act_code (compared_of p plan annots r e after step) (effect_if_any_at s after u around_test step sf sq sl with_step)
+        (compared_is_valid around_test outside_tries s r after v u annots w c n rs js (variant annots) refl b d))
 
   -- ---- what stands in which variables' lives
 
@@ -434,33 +516,34 @@ module _ (p : TranslationUnit) (plan : List Kept) (gs : List Signature) (ts : Ty
           tt,
         )
     statement_valid (While at annots e a) s around ls spot k r v same o f q m w l d b =
-        let loops = spot.levels + 1 in
-        let z = with_kinds (takes p e) r in
-        let first = begins_then z.kinds (after_statement p plan a z).kinds ts (statement_begins p plan a z) b in
-        loop_valid ls spot.levels spot.innermost around.breaks around.loops o (test p r.bound r.kinds loops e) (statement p plan (target.in_loop spot) z a) NoStatement (omega (arith, d)) (no_step_test p r.bound r.kinds loops e) refl
-        (test_at s r v (ended out ls spot.levels spot.innermost around.breaks around.loops o) loops e (own_end out ls spot.levels spot.innermost around.breaks around.loops o) f.1 q.0 l.0 first)
+        let z = before_body p plan annots (Some e) r in
+        let z2 = after_statement p plan a z in
+        let last = begins_then z2.kinds (after_turn p plan annots None z2).kinds ts (turn_begins p plan annots None z2) b in
+        let first = begins_then z.kinds z2.kinds ts (statement_begins p plan a z) last in
+        turns_valid ls spot.levels spot.innermost around.breaks around.loops o s annots m.0 f.0 l.2 r z2 v (sees_later p ts functions z z2 s (statement_keeps ts p plan a z last) v) (Some e) None
+        (statement p plan (target.in_loop spot) z a) (omega (arith, d)) f.1 q.0 l.0 tt tt tt first b
         (statement_valid a s (in_loop around) (in_body out ls spot.levels spot.innermost around.breaks around.loops o)
-        (target.in_loop spot) (points_loop spot k) z v same (around_body out ls spot.levels spot.innermost around.breaks around.loops o) f.2 q.1 m w l.1 (omega (arith, d)) b) tt
+        (target.in_loop spot) (points_loop spot k) z v same (around_body out ls spot.levels spot.innermost around.breaks around.loops o) f.2 q.1 m.1 w l.1 (omega (arith, d)) last)
     statement_valid (Do at a e) s around ls spot k r v same o f q m w l d b =
         let loops = spot.levels + 1 in
         let z = after_statement p plan a r in
         let first = begins_front z.kinds (takes p e) ts b in
-        loop_valid ls spot.levels spot.innermost around.breaks around.loops o NoStatement (statement p plan (target.in_loop spot) r a) (test p z.bound z.kinds loops e) (omega (arith, d)) refl (no_step_test p z.bound z.kinds loops e) tt
+        loop_valid ls spot.levels spot.innermost around.breaks around.loops o NoStatement NoStatement (statement p plan (target.in_loop spot) r a) (test p z.bound z.kinds loops e) (omega (arith, d)) refl refl
+        (no_step_test p z.bound z.kinds loops e) tt tt
         (statement_valid a s (in_loop around) (in_body out ls spot.levels spot.innermost around.breaks around.loops o)
         (target.in_loop spot) (points_loop spot k) r v same (around_body out ls spot.levels spot.innermost around.breaks around.loops o) f.0 q.0 m w l.0 (omega (arith, d)) first)
         (test_at s z (sees_later p ts functions r z s (statement_keeps ts p plan a r first) v) (ended out ls spot.levels spot.innermost around.breaks around.loops o) loops e
         (own_end out ls spot.levels spot.innermost around.breaks around.loops o) f.1 q.1 l.1 b)
     statement_valid (For at annots first e step a) s around ls spot k r v same o f q m w l d b =
         let own = declared_first first in
-        let loops = spot.levels + 1 in
         let inside = with_variables (next_register r) own spot in
         let y = entered own r in
         let z = after_first p plan first y in
-        let u = with_kinds (any_temporaries (takes p) e) z in
+        let u = before_body p plan annots e z in
         let z2 = after_statement p plan a u in
-        let fourth = begins_front z2.kinds (any_temporaries (act_takes p) step) ts b in
+        let fourth = begins_then z2.kinds (after_turn p plan annots step z2).kinds ts (turn_begins p plan annots step z2) b in
         let third = begins_then u.kinds z2.kinds ts (statement_begins p plan a u) fourth in
-        let second = begins_front z.kinds (any_temporaries (takes p) e) ts third in
+        let second = begins_then z.kinds u.kinds ts (body_begins p plan annots e z) third in
         let born = begins_then y.kinds z.kinds ts (first_begins p plan first y) second in
         let t = inner s in
         let have = entered_have ts own r born in
@@ -470,17 +553,14 @@ module _ (p : TranslationUnit) (plan : List Kept) (gs : List Signature) (ts : Ty
         let behind = sees_later p ts functions u z2 after (statement_keeps ts p plan a u fourth) in_turns in
         let points = points_with spot r own born k in
         let front = first_part p plan inside y first in
-        let tested = test_if_any p z.bound z.kinds loops e in
         let body = statement p plan (target.in_loop inside) u a in
-        let last = act_if_any p z2.bound z2.kinds step in
-        alive_valid (count_of_globals p) gs ts (result_of result) ls p (next_register r) own (before front (one (loop loops tested body last))) (first_small first t around v.knows.structs_are q.0) (entered_from ts own r born)
-        (and_then ls front (one (loop loops tested body last))
+        let whole = turns_of p plan annots (spot.levels + 1) z z2 e step body in
+        alive_valid (count_of_globals p) gs ts (result_of result) ls p (next_register r) own (before front whole) (first_small first t around v.knows.structs_are q.0) (entered_from ts own r born)
+        (and_then ls front whole
         (first_valid first t y in_born around inside ls have w.0 f.1 q.0 l.0 second)
-        (loop_valid ls spot.levels spot.innermost around.breaks around.loops o tested body last (omega (arith, d)) (no_step_test_if_any p z.bound z.kinds loops e) (no_step_act_if_any p z2.bound z2.kinds step)
-        (test_if_any_at after z in_turns (ended out ls spot.levels spot.innermost around.breaks around.loops o) loops e (own_end out ls spot.levels spot.innermost around.breaks around.loops o) f.2 q.1 l.1 third)
+        (turns_valid ls spot.levels spot.innermost around.breaks around.loops o after annots m.0 f.0 l.4 z z2 in_turns behind e step body (omega (arith, d)) f.2 q.1 l.1 f.3 q.2 l.3 third b
         (statement_valid a after (in_loop around) (in_body out ls spot.levels spot.innermost around.breaks around.loops o)
-        (target.in_loop inside) (points_loop inside points) u in_turns same (around_body out ls spot.levels spot.innermost around.breaks around.loops o) f.4 q.3 m w.1 l.2 (omega (arith, d)) fourth)
-        (effect_if_any_at after z2 behind (ended out ls spot.levels spot.innermost around.breaks around.loops o) step f.3 q.2 l.3 b)))
+        (target.in_loop inside) (points_loop inside points) u in_turns same (around_body out ls spot.levels spot.innermost around.breaks around.loops o) f.4 q.3 m.1 w.1 l.2 (omega (arith, d)) fourth)))
     statement_valid (Break at) s around ls spot k r v same o f q m w l d b = jump_valid spot.inside ls (end_label spot.levels) k.inside (o.end_among q)
     statement_valid (Continue at) s around ls spot k r v same o f q m w l d b =
         jump_valid (spot.inside ++ spot.between) ls (next_label spot.innermost) (point_both ts spot.inside spot.between k.inside k.between) (o.next_among q)
@@ -489,7 +569,7 @@ module _ (p : TranslationUnit) (plan : List Kept) (gs : List Signature) (ts : Ty
         let later = passed_label p plan (Some x) r in
         let first = begins_then later.kinds (after_statement p plan a later).kinds ts (statement_begins p plan a later) b in
         let fine = are_keepable p r.bound (count_of_globals p) ts (λ u. u ≡ s) (λ u e y t h. pointer_has p ts r.bound s v.knows y t (subst (λ u. Denotes u y t) e h)) (Some x) plan m.0 planned in
-        and_then ls (snapshot p r.bound (Some x) r.kinds plan) (statement p plan spot later a) (snapshots_are_valid p r.bound (count_of_globals p) gs ts (result_of result) ls (Some x) plan r.kinds fine first).statements
+        and_then ls (snapshot p r.bound (Some x) r.kinds plan) (statement p plan spot later a) (snapshots_are_valid p r.bound (count_of_globals p) gs ts (result_of result) ls (Some x) plan r.kinds fine many (λ i le is. o.no_tried i) first).statements
         (statement_valid a s around ls spot k later v same o f q m.1 w l (omega (arith, d)) b)
     statement_valid (Switch at e cases) s around ls spot k r v same o f q m w l d b =
         let levels = spot.levels + 1 in
@@ -591,5 +671,5 @@ module _ (p : TranslationUnit) (plan : List Kept) (gs : List Signature) (ts : Ty
         let said = m.0 in
         let knows = subst (Knows p ts r.bound) (sym said.here) v.knows in
         and_then ls (assertions p r.bound plan [] r.kinds annots) (items p plan spot z rest)
-        (assertions_valid p ts r.bound plan said.view knows said.alone gs (result_of result) ls r.kinds annots f.0 said.typed (λ x i. kept_registers ts plan planned x (said.planned x i)) l.0 first)
+        (assertions_valid p ts r.bound plan said.view knows said.alone said.unbound many gs (result_of result) ls o.no_tried r.kinds annots f.0 said.typed (λ x i. kept_registers ts plan planned x (said.planned x i)) l.0 first)
         (items_valid rest s around ls spot k z v same o h f.1 q.1 m.1 w.1 l.1 (omega (arith, d, right)) b)

@@ -1,3 +1,5 @@
+pub mod LoopClauses
 pub mod Translation
 pub mod Limits
 pub mod Options
+pub mod LoopForms

@@ -26,9 +26,10 @@ abbrev mutual
   HasNumbers (Eval at e) = ActHasLetters e
   HasNumbers (Block at items) = HaveNumbers items
   HasNumbers (If at e a b) = ValueHasLetters e × HasNumbers a × ElseHasNumbers b
-  HasNumbers (While at annots e a) = ValueHasLetters e × HasNumbers a
+  HasNumbers (While at annots e a) = ValueHasLetters e × HasNumbers a × AreNumbered annots
   HasNumbers (Do at a e) = HasNumbers a × ValueHasLetters e
-  HasNumbers (For at annots first e behind a) = FirstHasNumbers first × Any ValueHasLetters e × HasNumbers a × Any ActHasLetters behind
+  HasNumbers (For at annots first e behind a) =
+      FirstHasNumbers first × Any ValueHasLetters e × HasNumbers a × Any ActHasLetters behind × AreNumbered annots
   HasNumbers (Break at) = Unit {0}
   HasNumbers (Continue at) = Unit {0}
   HasNumbers (Return at e) = Any ValueHasLetters e

@@ -11,7 +11,8 @@ use Rattle.c_syntax.specs.Ctypes.{PlainType}
 use Rattle.c_syntax.specs.Expressions.{Expression, Node, Number, plain_expr, type_of}
 use Rattle.c_syntax.specs.Programs.{NamedBehavior, FunctionContract, Function, TranslationUnit, plain_func}
 use Rattle.c_syntax.specs.Statements.{Declaration, Statement, ElsePart, ForFirst, NoFirst, First, BlockItem, Declare, Specify, Run, Asserts, BlockItems}
-use Rattle.c_syntax.specs.Logic.{Annotation}
+use Rattle.c_syntax.specs.declared.logic.Annot.{Annot}
+use Rattle.c_syntax.specs.Logic.{Annotation, plain_annot}
 use Rattle.c_syntax.specs.Statements.{Cases, NoCase, AnotherCase, NoItem, While, Do, Switch, Initialiser}
 use Rattle.c_syntax.specs.Statements as source
 use Rattle.c_syntax.specs.Statements.{plain_stmt, plain_item, plain_items, plain_cases}
@@ -19,10 +20,9 @@ use Rattle.c_model.specs.Formed.{number_of}
 use Rattle.c_model.specs.StaticObjects.{static_objects}
 use Rattle.mon_syntax.specs.declared.tree.MonType.{MonType}
 use Rattle.mon_syntax.specs.declared.tree.MonType.TheVariants.{I32, Ptr}
-use Rattle.mon_syntax.specs.Registers.{Bindings, Names, bound_with, next_register, with_kinds, with_table}
+use Rattle.mon_syntax.specs.Registers.{Bindings, Names, bound_with, next_register, with_table}
 use Rattle.mon_syntax.specs.Trees.{MonStatement, MonStatements, NoStatement, Then, Labelled, Global, Constant}
 use Rattle.track_scopes.specs.Blocks.{births, deaths, entered, with_born}
-use Rattle.c_effects.specs.Effects.{any_temporaries}
 use Rattle.c_effects.specs.Expressions.{before, object_of_global, set, value_type}
 use Rattle.c_effects.specs.Full.{takes}
 use Rattle.c_initialisers.specs.Initialisers.{initialise_by}
@@ -40,7 +40,7 @@ use Rattle.instrument.specs.declared.contract.Frame as declared
 use Rattle.instrument.specs.declared.spot.Spot as code
 use Rattle.instrument.specs.Limits.{HaveNumbers}
 use Rattle.instrument.specs.Translation.{Spot, after_body, after_cases, after_else, after_first, after_item, after_items, after_statement, else_part}
-use Rattle.instrument.specs.Translation.{blocks_of_cases, code_of, first_part, for_turns, front, front_temporaries, global_temporaries, in_loop}
+use Rattle.instrument.specs.Translation.{blocks_of_cases, code_of, first_part, front, front_temporaries, global_temporaries}
 use Rattle.instrument.specs.Translation.{item, items, last_return, next_cases, others_in_block, outermost, parameters, passed_label}
 use Rattle.instrument.specs.Translation.{result_held, result_of, returned}
 use Rattle.instrument.specs.Translation.{returned_temporaries, search, statement, test, test_if_any, where_reached}
@@ -158,21 +158,15 @@ test_by n loops e = test (unit_of n) n.table.bound n.table.kinds loops e
 abbrev pub test_if_any_by : Names → ℕ → Option Expression → MonStatements
 test_if_any_by n loops e = test_if_any (unit_of n) n.table.bound n.table.kinds loops e
 
--- the loop of a `for`, after what stands first in it
-abbrev pub turns_by : List Kept → Names → Spot → Option Expression → Option Expression → Statement → MonStatements
-turns_by plan n spot e step a =
-    for_turns (unit_of n) (spot.levels + 1) n.table (after_statement (unit_of n) plan a (with_kinds (any_temporaries (takes (unit_of n)) e) n.table)) e step
-    (statement (unit_of n) plan (in_loop spot) (with_kinds (any_temporaries (takes (unit_of n)) e) n.table) a)
-
 -- the body of a function, where it has one
 abbrev pub body_by : List Kept → Names → Spot → Option Statement → MonStatements
 body_by plan n spot None = NoStatement
 body_by plan n spot (Some a) = statement_by plan n spot a
 
--- ---- statements from their parts; their own place and annotations play no part in their translation
+-- ---- statements from their parts; their own place plays no part in their translation
 
-abbrev pub while_loop : Stmt → Expr → Statement
-while_loop a e = While a.place [] (plain_expr e) (plain_stmt a)
+abbrev pub while_loop : List Annot → Stmt → Expr → Statement
+while_loop annots a e = While a.place (map plain_annot annots) (plain_expr e) (plain_stmt a)
 
 abbrev pub do_loop : Stmt → Expr → Statement
 do_loop a e = Do a.place (plain_stmt a) (plain_expr e)

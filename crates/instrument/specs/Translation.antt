@@ -14,10 +14,12 @@ use Rattle.c_syntax.specs.Statements.{BlockItems}
 use Rattle.c_syntax.specs.Statements.{NoItem, Initialiser, Cases, NoCase, AnotherCase}
 use Rattle.c_syntax.specs.Programs.{NamedBehavior, FunctionContract, Function, TranslationUnit}
 use Rattle.c_syntax.specs.Layouts.{size_of}
+use Rattle.c_syntax.specs.Logic.{Annotation}
 use Rattle.c_model.specs.Meaning.{declared_in, declared_first, default_of, is_definition}
 use Rattle.c_model.specs.ContractChecks.{result_number}
 use Rattle.c_model.specs.ExpressionTyping.{name_at}
 use Rattle.c_model.specs.Formed.{number_of}
+use Rattle.c_model.specs.Predicates.{variant}
 use Rattle.c_model.specs.StaticObjects.{StaticObject, OfGlobal, OfLiteral, static_objects}
 use Rattle.mon_syntax.specs.declared.tree.MonType.{MonType}
 use Rattle.mon_syntax.specs.declared.tree.MonOp.TheVariants.{Eq, Le}
@@ -37,6 +39,7 @@ use Rattle.annot_simulation.specs.ContractCode.{entry_code, behind_entry, leave_
 use Rattle.annot_simulation.specs.Held.{Held}
 use Rattle.annot_simulation.specs.Plan.{planned, kept_from, kept_types}
 use Rattle.annot_simulation.specs.Snapshots.{snapshot, behind_snapshot}
+use Rattle.instrument.specs.LoopClauses.{invariants_code, behind_invariants, variant_kept, behind_variant, variant_compared}
 use Rattle.track_scopes.specs.Blocks.{entered, birth, births, deaths, with_born}
 
 -- ---- names
@@ -79,17 +82,33 @@ switch_temporaries p e = returned_temporaries p e ++ U64 ∷ []
 abbrev pub passed_label : TranslationUnit → List Kept → Option ℕ → RegisterTable → RegisterTable
 passed_label p plan l r = record r { kinds = behind_snapshot p r.bound l r.kinds plan }
 
+-- after the invariants of a loop, and after its variant
+abbrev pub after_invariants : TranslationUnit → List Kept → List Annotation → RegisterTable → RegisterTable
+after_invariants p plan annots r = record r { kinds = behind_invariants p r.bound plan r.kinds annots }
+
+abbrev pub after_variant : TranslationUnit → List Kept → List Annotation → RegisterTable → RegisterTable
+after_variant p plan annots r = record r { kinds = behind_variant p r.bound plan r.kinds (variant annots) }
+
+-- before the body of a loop: after its invariants, its condition, and its variant, which is kept
+abbrev pub before_body : TranslationUnit → List Kept → List Annotation → Option Expression → RegisterTable → RegisterTable
+before_body p plan annots e r = after_variant p plan annots (with_kinds (any_temporaries (takes p) e) (after_invariants p plan annots r))
+
+-- after what stands behind the body, and the variant, which is compared
+abbrev pub after_turn : TranslationUnit → List Kept → List Annotation → Option Expression → RegisterTable → RegisterTable
+after_turn p plan annots behind r = after_variant p plan annots (with_kinds (any_temporaries (act_takes p) behind) r)
+
 abbrev mutual
   pub after_statement : TranslationUnit → List Kept → Statement → RegisterTable → RegisterTable
   after_statement p plan (source_statement.Empty at) r = r
   after_statement p plan (source_statement.Eval at e) r = with_kinds (act_takes p e) r
   after_statement p plan (source_statement.Block at body) r = after_items p plan body (entered (declared_in body) r)
   after_statement p plan (source_statement.If at e a b) r = after_else p plan b (after_statement p plan a (with_kinds (takes p e) r))
-  after_statement p plan (source_statement.While at annots e a) r = after_statement p plan a (with_kinds (takes p e) r)
+  after_statement p plan (source_statement.While at annots e a) r =
+      after_turn p plan annots None (after_statement p plan a (before_body p plan annots (Some e) r))
   after_statement p plan (source_statement.Do at a e) r = with_kinds (takes p e) (after_statement p plan a r)
   after_statement p plan (source_statement.For at annots first e behind a) r =
-      with_kinds (any_temporaries (act_takes p) behind)
-      (after_statement p plan a (with_kinds (any_temporaries (takes p) e) (after_first p plan first (entered (declared_first first) r))))
+      after_turn p plan annots behind
+      (after_statement p plan a (before_body p plan annots e (after_first p plan first (entered (declared_first first) r))))
   after_statement p plan (source_statement.Break at) r = r
   after_statement p plan (source_statement.Continue at) r = r
   after_statement p plan (source_statement.Return at e) r = with_kinds (any_temporaries (returned_temporaries p) e) r
@@ -142,14 +161,29 @@ abbrev pub act_if_any : TranslationUnit → Bindings → List MonType → Option
 act_if_any p bound rs None = NoStatement
 act_if_any p bound rs (Some e) = act p bound rs e
 
--- what stands before the step, the body, and what stands after it
-abbrev pub loop : ℕ → MonStatements → MonStatements → MonStatements → MonStatement
-loop loops front body behind = Labelled (one (Loop front (Then (Labelled body (next_label loops)) behind))) (end_label loops)
+-- what stands before the step, and after it; the body, and what stands after that
+abbrev pub loop : ℕ → MonStatements → MonStatements → MonStatements → MonStatements → MonStatement
+loop loops front kept body behind =
+    Labelled (one (Loop front (before kept (Then (Labelled body (next_label loops)) behind)))) (end_label loops)
 
--- the turns of a `for`: the registers before its condition, and those before what stands after its body
-abbrev pub for_turns : TranslationUnit → ℕ → RegisterTable → RegisterTable → Option Expression → Option Expression → MonStatements → MonStatements
-for_turns p loops r after e behind body =
-    one (loop loops (test_if_any p r.bound r.kinds loops e) body (act_if_any p after.bound after.kinds behind))
+-- The turns of a `while` or a `for`: the registers before its invariants, and those after its body. Invariants and condition; after the step the variant is
+-- kept; after the body comes what stands behind it, and the variant is compared.
+module _ (p : TranslationUnit) (plan : List Kept) (annots : List Annotation) where
+  abbrev pub front_of : ℕ → RegisterTable → Option Expression → MonStatements
+  front_of loops r e =
+      before (invariants_code p r.bound plan r.kinds annots) (test_if_any p r.bound (behind_invariants p r.bound plan r.kinds annots) loops e)
+
+  abbrev pub kept_of : RegisterTable → Option Expression → MonStatements
+  kept_of r e = variant_kept p r.bound plan (behind_invariants p r.bound plan r.kinds annots ++ any_temporaries (takes p) e) (variant annots)
+
+  abbrev pub compared_of : RegisterTable → Option Expression → RegisterTable → Option Expression → MonStatements
+  compared_of r e after behind =
+      variant_compared p r.bound after.bound plan (behind_invariants p r.bound plan r.kinds annots ++ any_temporaries (takes p) e)
+      (after.kinds ++ any_temporaries (act_takes p) behind) (variant annots)
+
+  abbrev pub turns_of : ℕ → RegisterTable → RegisterTable → Option Expression → Option Expression → MonStatements → MonStatements
+  turns_of loops r after e behind body =
+      one (loop loops (front_of loops r e) (kept_of r e) body (before (act_if_any p after.bound after.kinds behind) (compared_of r e after behind)))
 
 -- Where a statement stands: how many loops and switches stand around it, the number of the innermost loop among these, and the blocks of variables that
 -- live, by the registers that point to them, the youngest first: those born inside what a `break` leaves, from there to the body of the innermost loop,
@@ -251,17 +285,18 @@ module _ (p : TranslationUnit) (plan : List Kept) where
         (statement spot (with_kinds (takes p e) r) a)
         (else_part spot (after_statement p plan a (with_kinds (takes p e) r)) b)))
     statement spot r (source_statement.While at annots e a) =
-        one (loop (spot.levels + 1) (test p r.bound r.kinds (spot.levels + 1) e) (statement (in_loop spot) (with_kinds (takes p e) r) a) NoStatement)
+        turns_of p plan annots (spot.levels + 1) r (after_statement p plan a (before_body p plan annots (Some e) r)) (Some e) None
+        (statement (in_loop spot) (before_body p plan annots (Some e) r) a)
     statement spot r (source_statement.Do at a e) =
-        one (loop (spot.levels + 1) NoStatement (statement (in_loop spot) r a)
+        one (loop (spot.levels + 1) NoStatement NoStatement (statement (in_loop spot) r a)
         (test p (after_statement p plan a r).bound (after_statement p plan a r).kinds (spot.levels + 1) e))
     statement spot r (source_statement.For at annots first e behind a) =
         alive p (next_register r) (declared_first first)
         (before (first_part (with_variables (next_register r) (declared_first first) spot) (entered (declared_first first) r) first)
-        (for_turns p (spot.levels + 1) (after_first p plan first (entered (declared_first first) r))
-        (after_statement p plan a (with_kinds (any_temporaries (takes p) e) (after_first p plan first (entered (declared_first first) r)))) e behind
+        (turns_of p plan annots (spot.levels + 1) (after_first p plan first (entered (declared_first first) r))
+        (after_statement p plan a (before_body p plan annots e (after_first p plan first (entered (declared_first first) r)))) e behind
         (statement (in_loop (with_variables (next_register r) (declared_first first) spot))
-        (with_kinds (any_temporaries (takes p) e) (after_first p plan first (entered (declared_first first) r))) a)))
+        (before_body p plan annots e (after_first p plan first (entered (declared_first first) r))) a)))
     statement spot r (source_statement.Break at) = before (deaths spot.inside) (one (Goto (end_label spot.levels)))
     statement spot r (source_statement.Continue at) = before (deaths (spot.inside ++ spot.between)) (one (Goto (next_label spot.innermost)))
     statement spot r (source_statement.Return at e) = returned spot r e

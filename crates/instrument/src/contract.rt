@@ -160,7 +160,7 @@ fn names_in(body: &Body) -> &[(Place, u32)]
 {
     match body {
         Body::Names(listed) => listed,
-        Body::Raw(_) | Body::Truth(_) => &[],
+        Body::Raw(_) | Body::Truth(_) | Body::Value(_) => &[],
     }
 }
 

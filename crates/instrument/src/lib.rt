@@ -5,6 +5,7 @@
 #![tactic(auto)]
 
 mod block;
+mod clause;
 mod contract;
 mod function;
 mod global;

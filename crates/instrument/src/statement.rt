@@ -1,6 +1,6 @@
 //! Statements (C99 6.8).
 
-ghost use Rattle.std.specs.Prelude.{◌≡◌, ◌+◌, ◌<◌, ◌++◌, [], IfOk, OnOk, drop, length, map, option_map, reverse};
+ghost use Rattle.std.specs.Prelude.{◌≡◌, ◌+◌, ◌<◌, ◌++◌, [], IfOk, OnOk, Some, drop, length, map, option_map, reverse};
 ghost use Rattle.c_syntax.specs.Logic.{plain_annot};
 ghost use Rattle.c_syntax.specs.Expressions.{plain_expr};
 ghost use Rattle.c_syntax.specs.Statements.{Asserts, plain_cases, plain_else_part, plain_item, plain_items, plain_stmt};
@@ -22,11 +22,14 @@ ghost use Rattle.instrument.specs.Options.{behind_item, behind_items, births_by,
 ghost use Rattle.instrument.specs.Options.{ItemsHaveNumbers, cases_in_block, do_loop, else_part_by, entering, first_cases, items_of_case};
 ghost use Rattle.instrument.specs.Options.{labelled_of, next_cases_by, plan_in, reached_by, switch_of};
 ghost use Rattle.instrument.specs.Options.{first_part_by, item_by, items_by, plain_first_part, plain_spot, statement_by};
-ghost use Rattle.instrument.specs.Options.{test_by, test_if_any_by, turns_by, while_loop, with_blocks};
+ghost use Rattle.instrument.specs.LoopForms.{after_turn_by, before_body_by, behind_invariants_by, behind_variant_by, front_by, kept_in};
+ghost use Rattle.instrument.specs.LoopForms.{plain_kept_variant, turn_by, turns_by};
+ghost use Rattle.instrument.specs.Options.{test_by, test_if_any_by, while_loop, with_blocks};
 ghost use Rattle.instrument.specs.Translation.{alive, in_loop, leave_where_zero, returned_temporaries, switch_temporaries, with_variables};
 ghost use Rattle.c_simulation.specs.Labels.{end_label, next_label};
 
 use crate::block::{enter_block, inside, items_of, leave, one_more};
+use crate::clause::{KeptVariant, compare_variant, invariants, keep_variant};
 use crate::jump::{break_out, give_back, go_on, set_aside};
 use crate::name::{end_label, next_label};
 use crate::spot::Spot;
@@ -36,7 +39,7 @@ use annot_code::snapshot::snapshot;
 use annot_pieces::kept::Held;
 use annot_pieces::plan::{Plan, Stored};
 use c_effects::conversion::value_type;
-use c_effects::part::{alone, then};
+use c_effects::part::{alone, then, then_all};
 use c_evaluation::act::{act, act_if_any};
 use c_evaluation::evaluation::condition_of;
 use c_initialisers::initialiser::initialise_all;
@@ -208,11 +211,11 @@ pub fn statement(
             let first = tested(alloc, spot, a, e, names, to)?;
             branches(alloc, spot, b, first, names, to)
         }
-        StmtKind::While(_, e, a) => while_loop(alloc, spot, a, e, names, to),
+        StmtKind::While(annots, e, a) => while_loop(alloc, spot, a, (annots, e), names, to),
         StmtKind::Do(a, e) => do_loop(alloc, spot, a, e, names, to),
-        StmtKind::For(_, first, e, step, a) => {
+        StmtKind::For(annots, first, e, step, a) => {
             let own = enter_for(alloc, spot, first, names, to)?;
-            rest_of_for(alloc, spot, own, a, (e, step), names, to)
+            rest_of_for(alloc, spot, own, a, (annots, e, step), names, to)
         }
         StmtKind::Break => break_out(alloc, spot, to),
         StmtKind::Continue => go_on(alloc, spot, to),
@@ -368,27 +371,94 @@ fn next_case(
     where_reached(alloc, chosen, index, code, to)
 }
 
+// What stands before the step of a `while`: its invariants and its condition.
+fn front_of_while(
+    alloc: Global,
+    plan: &Plan<'_>,
+    loops: u32,
+    annots: &[Annot],
+    e: &Expr,
+    names: &mut Registers<'_>,
+) -> Result<Vec<MonStmt>, AllocError>
+    ensures code { IfOk result (λ code. plain_stmts code.items
+        ≡ front_by (plain_plan plan.now.kept.now) names.old loops (map plain_annot annots.now) (Some (plain_expr e.now))) }
+    ensures names { OnOk result (names.new ≡ with_registers (takes (unit_of names.old) (plain_expr e.now))
+        (behind_invariants_by (plain_plan plan.now.kept.now) (map plain_annot annots.now) names.old)) }
+    ensures numbers { OnOk result (ValueHasLetters (plain_expr e.now) × AreNumbered (map plain_annot annots.now)) }
+{
+    let mut front = Vec::new(alloc);
+    invariants(alloc, plan, annots, names, &mut front)?;
+    leave_unless(alloc, loops, e, names, &mut front)?;
+    Ok(front)
+}
+
+// The same of a `for`, whose condition may be left out.
+fn front_of_for(
+    alloc: Global,
+    plan: &Plan<'_>,
+    loops: u32,
+    annots: &[Annot],
+    e: &Option<Expr>,
+    names: &mut Registers<'_>,
+) -> Result<Vec<MonStmt>, AllocError>
+    ensures code { IfOk result (λ code. plain_stmts code.items
+        ≡ front_by (plain_plan plan.now.kept.now) names.old loops (map plain_annot annots.now) (option_map plain_expr e.now)) }
+    ensures names { OnOk result (names.new ≡ with_registers (any_temporaries (takes (unit_of names.old)) (option_map plain_expr e.now))
+        (behind_invariants_by (plain_plan plan.now.kept.now) (map plain_annot annots.now) names.old)) }
+    ensures numbers { OnOk result (Any ValueHasLetters (option_map plain_expr e.now) × AreNumbered (map plain_annot annots.now)) }
+{
+    let mut front = Vec::new(alloc);
+    invariants(alloc, plan, annots, names, &mut front)?;
+    leave_unless_any(alloc, loops, e, names, &mut front)?;
+    Ok(front)
+}
+
+// A turn of a loop after its step, up to the end of its body. It gives the variant, whose value is kept.
+#[cycle(statement)]
+#[tactic(auto, using(c_effects::proofs::Sequences::before_assoc))]
+fn turn<'a>(
+    alloc: Global,
+    spot: &Spot<'_>,
+    annots: &'a [Annot],
+    a: &Stmt,
+    names: &mut Registers<'_>,
+    to: &mut Vec<MonStmt>,
+) -> Result<Option<KeptVariant<'a>>, AllocError>
+    ensures kept { IfOk result (λ o. option_map plain_kept_variant o ≡ kept_in (plan_in spot.now) names.old (map plain_annot annots.now)) }
+    ensures code { OnOk result (plain_stmts to.new.items ≡ before (plain_stmts to.old.items)
+        (turn_by (plan_in spot.now) names.old (plain_spot spot.now) (map plain_annot annots.now) (plain_stmt a.now))) }
+    ensures names { OnOk result (names.new ≡ after (plan_in spot.now) (plain_stmt a.now)
+        (behind_variant_by (plan_in spot.now) (map plain_annot annots.now) names.old)) }
+    ensures numbers { OnOk result (HasNumbers (plain_stmt a.now)) }
+{
+    let kept = keep_variant(alloc, spot.plan, annots, names, to)?;
+    let code = round(alloc, spot, a, names)?;
+    then_all(to, code)?;
+    Ok(kept)
+}
+
 // A `while`.
 #[cycle(statement)]
 fn while_loop(
     alloc: Global,
     spot: &Spot<'_>,
     a: &Stmt,
-    e: &Expr,
+    head: (&[Annot], &Expr),
     names: &mut Registers<'_>,
     to: &mut Vec<MonStmt>,
 ) -> Result<(), AllocError>
     ensures code { OnOk result (plain_stmts to.new.items ≡ before (plain_stmts to.old.items)
-        (statement_by (plan_in spot.now) names.old (plain_spot spot.now)
-        (while_loop a.now e.now))) }
-    ensures names { OnOk result (names.new ≡ after (plan_in spot.now) (while_loop a.now e.now) names.old) }
-    ensures numbers { OnOk result (HasNumbers (while_loop a.now e.now)) }
+        (statement_by (plan_in spot.now) names.old (plain_spot spot.now) (while_loop head.entry.0.now a.now head.entry.1.now))) }
+    ensures names { OnOk result (names.new ≡ after (plan_in spot.now) (while_loop head.entry.0.now a.now head.entry.1.now) names.old) }
+    ensures numbers { OnOk result (HasNumbers (while_loop head.entry.0.now a.now head.entry.1.now)) }
 {
+    let (annots, e) = head;
     let loops = one_more(spot.levels)?;
-    let mut front = Vec::new(alloc);
-    leave_unless(alloc, loops, e, names, &mut front)?;
-    let behind = round(alloc, spot, a, names)?;
-    repeat(alloc, loops, front, behind, to)
+    let front = front_of_while(alloc, spot.plan, loops, annots, e, names)?;
+    let mut code = Vec::new(alloc);
+    let kept = turn(alloc, spot, annots, a, names, &mut code)?;
+    compare_variant(alloc, spot.plan, kept, names, &mut code)?;
+    repeat(alloc, loops, front, code, to)
 }
 
 // A `do`.
@@ -452,19 +522,19 @@ fn rest_of_for(
     spot: &Spot<'_>,
     own: Vec<u32>,
     a: &Stmt,
-    controls: (&Option<Expr>, &Option<Expr>),
+    controls: (&[Annot], &Option<Expr>, &Option<Expr>),
     names: &mut Registers<'_>,
     to: &mut Vec<MonStmt>,
 ) -> Result<(), AllocError>
     ensures code { OnOk result (plain_stmts to.new.items ≡ before (plain_stmts to.old.items)
-        (before (turns_by (plan_in spot.now) names.old (with_blocks (reverse own.items) (plain_spot spot.now))
-        (option_map plain_expr controls.entry.0.now) (option_map plain_expr controls.entry.1.now) (plain_stmt a.now)) (deaths (reverse own.items)))) }
-    ensures names { OnOk result (names.new ≡ with_registers
-        (any_temporaries (act_takes (unit_of names.old)) (option_map plain_expr controls.entry.1.now))
+        (before (turns_by (plan_in spot.now) names.old (with_blocks (reverse own.items) (plain_spot spot.now)) (map plain_annot controls.entry.0.now)
+        (option_map plain_expr controls.entry.1.now) (option_map plain_expr controls.entry.2.now) (plain_stmt a.now)) (deaths (reverse own.items)))) }
+    ensures names { OnOk result (names.new
+        ≡ after_turn_by (plan_in spot.now) (map plain_annot controls.entry.0.now) (option_map plain_expr controls.entry.2.now)
         (after (plan_in spot.now) (plain_stmt a.now)
-        (with_registers (any_temporaries (takes (unit_of names.old)) (option_map plain_expr controls.entry.0.now)) names.old))) }
-    ensures numbers { OnOk result (Any ValueHasLetters (option_map plain_expr controls.entry.0.now) × HasNumbers (plain_stmt a.now)
-        × Any ActHasLetters (option_map plain_expr controls.entry.1.now)) }
+        (before_body_by (plan_in spot.now) (map plain_annot controls.entry.0.now) (option_map plain_expr controls.entry.1.now) names.old))) }
+    ensures numbers { OnOk result (Any ValueHasLetters (option_map plain_expr controls.entry.1.now) × HasNumbers (plain_stmt a.now)
+        × Any ActHasLetters (option_map plain_expr controls.entry.2.now) × AreNumbered (map plain_annot controls.entry.0.now)) }
 {
     let live = inside(alloc, spot.inside, &own)?;
     let around = Spot {
@@ -611,32 +681,33 @@ fn first_part(
     }
 }
 
-// The loop of a `for`, from its body, its condition and its step.
+// The loop of a `for`, from its annotations, its body, its condition and its step.
 #[cycle(statement)]
 fn turns(
     alloc: Global,
     spot: &Spot<'_>,
     a: &Stmt,
-    controls: (&Option<Expr>, &Option<Expr>),
+    controls: (&[Annot], &Option<Expr>, &Option<Expr>),
     names: &mut Registers<'_>,
     to: &mut Vec<MonStmt>,
 ) -> Result<(), AllocError>
     ensures code { OnOk result (plain_stmts to.new.items ≡ before (plain_stmts to.old.items)
-        (turns_by (plan_in spot.now) names.old (plain_spot spot.now)
-        (option_map plain_expr controls.entry.0.now) (option_map plain_expr controls.entry.1.now) (plain_stmt a.now))) }
-    ensures names { OnOk result (names.new ≡ with_registers
-        (any_temporaries (act_takes (unit_of names.old)) (option_map plain_expr controls.entry.1.now))
+        (turns_by (plan_in spot.now) names.old (plain_spot spot.now) (map plain_annot controls.entry.0.now)
+        (option_map plain_expr controls.entry.1.now) (option_map plain_expr controls.entry.2.now) (plain_stmt a.now))) }
+    ensures names { OnOk result (names.new
+        ≡ after_turn_by (plan_in spot.now) (map plain_annot controls.entry.0.now) (option_map plain_expr controls.entry.2.now)
         (after (plan_in spot.now) (plain_stmt a.now)
-        (with_registers (any_temporaries (takes (unit_of names.old)) (option_map plain_expr controls.entry.0.now)) names.old))) }
-    ensures numbers { OnOk result (Any ValueHasLetters (option_map plain_expr controls.entry.0.now) × HasNumbers (plain_stmt a.now)
-        × Any ActHasLetters (option_map plain_expr controls.entry.1.now)) }
+        (before_body_by (plan_in spot.now) (map plain_annot controls.entry.0.now) (option_map plain_expr controls.entry.1.now) names.old))) }
+    ensures numbers { OnOk result (Any ValueHasLetters (option_map plain_expr controls.entry.1.now) × HasNumbers (plain_stmt a.now)
+        × Any ActHasLetters (option_map plain_expr controls.entry.2.now) × AreNumbered (map plain_annot controls.entry.0.now)) }
 {
-    let (e, step) = controls;
+    let (annots, e, step) = controls;
     let loops = one_more(spot.levels)?;
-    let mut front = Vec::new(alloc);
-    leave_unless_any(alloc, loops, e, names, &mut front)?;
-    let mut behind = round(alloc, spot, a, names)?;
+    let front = front_of_for(alloc, spot.plan, loops, annots, e, names)?;
+    let mut behind = Vec::new(alloc);
+    let kept = turn(alloc, spot, annots, a, names, &mut behind)?;
     act_if_any(alloc, step, names, &mut behind)?;
+    compare_variant(alloc, spot.plan, kept, names, &mut behind)?;
     repeat(alloc, loops, front, behind, to)
 }
 

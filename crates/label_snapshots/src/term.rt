@@ -1,13 +1,15 @@
 //! The terms at labels in terms, predicates and annotations.
 
 ghost use Rattle.std.specs.Prelude.{◌≡◌, ◌++◌, [], ◌∷◌, OnOk, map};
-ghost use Rattle.c_syntax.specs.Logic.{plain_annot, plain_body, plain_links, plain_pred, plain_term, plain_zone_kind, plain_zones};
-ghost use Rattle.annot_simulation.specs.Plan.{in_annotations, in_clause, in_links, in_predicate, in_term, in_zone, in_zones};
+ghost use Rattle.c_syntax.specs.Logic.{plain_annot, plain_body, plain_guards, plain_links, plain_pred, plain_term, plain_zone_kind, plain_zones};
+ghost use Rattle.annot_simulation.specs.Plan.{in_annotations, in_clause, in_guards, in_links, in_predicate, in_term, in_zone, in_zones};
 ghost use Rattle.label_snapshots.specs.Plain.{plain_entries};
 
 use crate::entry::Entry;
 use c_syntax::Annot;
-use c_syntax::logic::{Body, Label, Links, Pred, PredKind, Term, TermKind, Zone, ZoneKind, Zones};
+use c_syntax::logic::{
+    Body, Guards, Label, Links, Pred, PredKind, Term, TermKind, Zone, ZoneKind, Zones,
+};
 use std::alloc::AllocError;
 
 // A term at a label of the past is kept.
@@ -107,8 +109,27 @@ fn add_pred<'a>(p: &'a Pred, to: &mut Vec<Entry<'a>>) -> Result<(), AllocError>
             add_pred(a, to)?;
             add_pred(b, to)
         }
+        PredKind::Quantified(_, guards, q) => {
+            add_guards(guards, to)?;
+            add_pred(q, to)
+        }
         PredKind::Asks(_, z) => add_zone(z, to),
         PredKind::Separated(zones) => add_zones(zones, to),
+    }
+}
+
+// Adds those in the bounds of chains.
+#[cycle(entries)]
+fn add_guards<'a>(guards: &'a Guards, to: &mut Vec<Entry<'a>>) -> Result<(), AllocError>
+    ensures { OnOk result (plain_entries to.new.items ≡ plain_entries to.old.items ++ in_guards (plain_guards guards.now)) }
+{
+    match guards {
+        Guards::End => Ok(()),
+        Guards::More(guard, rest) => {
+            add_term(&guard.lower, to)?;
+            add_term(&guard.upper, to)?;
+            add_guards(rest, to)
+        }
     }
 }
 
@@ -118,6 +139,7 @@ fn add_clause<'a>(body: &'a Body, to: &mut Vec<Entry<'a>>) -> Result<(), AllocEr
 {
     match body {
         Body::Truth(p) => add_pred(p, to),
+        Body::Value(t) => add_term(t, to),
         Body::Raw(_) | Body::Names(_) => Ok(()),
     }
 }

@@ -1,5 +1,5 @@
 use Rattle.std.proofs.Common.{suc, map, reverse, ap, ◌∙◌}
-use Rattle.c_syntax.specs.Programs.{plain_contract, plain_func}
+use Rattle.c_syntax.specs.Programs.{plain_contract}
 use Rattle.c_syntax.specs.Statements.{plain_decl}
 use Rattle.mon_syntax.specs.Trees.{plain_stmts}
 use Rattle.mon_syntax.proofs.Rows.{labelled_is}

@@ -1,4 +1,4 @@
-use Rattle.std.proofs.Common.{ℕ, List, map, refl, sym, subst}
+use Rattle.std.proofs.Common.{List, map, refl, sym, subst}
 use Rattle.c_syntax.specs.Logic.{Annotation, plain_annot}
 use Rattle.c_syntax.specs.Programs.{plain_behavior}
 use Rattle.c_effects.proofs.Sequences.{left_at, none_left}

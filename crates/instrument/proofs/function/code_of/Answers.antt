@@ -1,8 +1,8 @@
-use Rattle.std.proofs.Common.{◌≡◌, List, map, ap, ◌∙◌}
+use Rattle.std.proofs.Common.{List, map, ap, ◌∙◌}
 use Rattle.c_syntax.specs.declared.statement.Decl.{Decl}
 use Rattle.c_syntax.specs.Programs.{plain_func}
 use Rattle.c_syntax.specs.Statements.{plain_decl}
-use Rattle.mon_syntax.specs.Registers.{Names, no_registers, with_kinds, with_table}
+use Rattle.mon_syntax.specs.Registers.{no_registers, with_kinds, with_table}
 use Rattle.mon_syntax.specs.Trees.{plain_stmts}
 use Rattle.annot_pieces.specs.Tables.{plain_plan}
 use Rattle.instrument.specs.Translation.{value_types}

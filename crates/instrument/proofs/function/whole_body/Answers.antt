@@ -1,4 +1,4 @@
-use Rattle.std.proofs.Common.{◌≡◌, List, [], map, reverse, ap, ◌∙◌, sym, subst}
+use Rattle.std.proofs.Common.{List, [], map, reverse, ap, ◌∙◌}
 use Rattle.c_syntax.specs.declared.statement.Decl.{Decl}
 use Rattle.c_syntax.specs.Programs.{plain_func}
 use Rattle.c_syntax.specs.Statements.{plain_decl}

@@ -1,4 +1,4 @@
-use Rattle.std.proofs.Common.{◌+◌, length, ap, ◌∙◌}
+use Rattle.std.proofs.Common.{ap, ◌∙◌}
 use Rattle.mon_syntax.specs.Registers.{Names, next_register}
 use Rattle.c_syntax.specs.Programs.{plain_func}
 use Rattle.annot_simulation.specs.Plan.{kept_types, planned}

@@ -13,9 +13,11 @@ use Rattle.c_effects.proofs.Sequences.{left_at, none_left, all_there, more_behin
 use Rattle.c_effects.proofs.Trees.{on_ok, on_ok_then}
 use Rattle.instrument.specs.Limits.{HasNumbers, HaveNumbers}
 use Rattle.instrument.specs.Options.{ItemsHaveNumbers, behind_cases, blocks_of_cases_by, cases_in_block, after, behind_first, behind_item, behind_items, else_part_by, entering, first_part_by, item_by, items_by, plain_first_part, plain_spot, plan_in}
-use Rattle.instrument.specs.Options.{statement_by, test_if_any_by}
+use Rattle.instrument.specs.LoopForms.{plain_kept_variant, turn_by}
+use Rattle.instrument.specs.Options.{statement_by}
 use Rattle.instrument.proofs.DeclarationCode.{born_front, inside_is}
-use Rattle.instrument.proofs.StatementTrees.{block_stmt, branches_code, if_stmt, for_stmt, if_code, do_code, do_names, round_code, turns_code, entered_code, rest_code, for_code, alive_code, declared_of_first, for_names}
+use Rattle.instrument.proofs.StatementTrees.{block_stmt, branches_code, if_stmt, for_stmt, if_code, do_code, do_names, round_code, turns_code, turns_names, while_code, while_names, entered_code, rest_code, for_code, alive_code, declared_of_first}
+use Rattle.instrument.proofs.StatementTrees.{for_names}
 use Rattle.instrument.proofs.SwitchCode.{switch_code, switch_stmt, one_more_case, more_names, more_numbers, no_more_code, no_more_cases, one_more_block, further_names, further_numbers, have_numbers}
 use Rattle.instrument.proofs.statement.+statement.Goals as goal
 
@@ -68,17 +70,49 @@ block-returns-clause-code t c =
 
 pub turns-returns-clause-code : goal.turns-returns-clause-code
 turns-returns-clause-code t c =
+    let ks = plan_in c.args.spot.now in
     let n = c.args.names.now in
-    let t0 = plain_stmts c.args.to.now.items in
-    let e = option_map plain_expr c.args.controls.0.now in
+    let annots = map plain_annot c.args.controls.0.now in
+    let a = plain_stmt c.args.a.now in
     on_ok_then c.repeat.result
-    (turns_code (plan_in c.args.spot.now) n c.leave_unless_any.new.names c.round.new.names (plain_spot c.args.spot.now) t0 (plain_stmts c.repeat.new.to.items) e (option_map plain_expr c.args.controls.1.now)
-    (plain_stmt c.args.a.now) c.in_ok-loops.loops
-    (plain_stmts c.leave_unless_any.new.to.items) (plain_stmts c.in_ok-behind.behind.items) (plain_stmts c.act_if_any.new.to.items)
-    c.in_ok-loops.ensures
-    (c.in_ok-leave_unless_any.ensures.code ∙ ap (λ l. before (plain_stmts l) (test_if_any_by n c.in_ok-loops.loops e)) c.new-front.ensures.items)
-    c.in_ok-leave_unless_any.ensures.names c.in_ok-behind.ensures.code c.in_ok-behind.ensures.names c.in_ok-act_if_any.ensures.setup)
+    (turns_code ks n c.front_of_for.new.names c.turn.new.names c.act_if_any.new.names annots (option_map plain_expr c.args.controls.1.now) (option_map plain_expr c.args.controls.2.now) a
+    (option_map plain_kept_variant c.in_ok-kept.kept) c.in_ok-front.ensures.names c.in_ok-kept.ensures.kept c.in_ok-kept.ensures.names c.in_ok-act_if_any.ensures.names
+    (plain_spot c.args.spot.now) (plain_stmts c.args.to.now.items) (plain_stmts c.repeat.new.to.items) c.in_ok-loops.loops (plain_stmts c.in_ok-front.front.items) (plain_stmts c.turn.new.to.items)
+    (plain_stmts c.act_if_any.new.to.items) (plain_stmts c.compare_variant.new.to.items)
+    c.in_ok-loops.ensures c.in_ok-front.ensures.code
+    (c.in_ok-kept.ensures.code ∙ ap (λ l. before (plain_stmts l) (turn_by ks c.front_of_for.new.names (plain_spot c.args.spot.now) annots a)) c.new-behind.ensures.items)
+    c.in_ok-act_if_any.ensures.setup c.in_ok-compare_variant.ensures.code)
     c.repeat.ensures
+
+pub turns-returns-clause-names : goal.turns-returns-clause-names
+turns-returns-clause-names t c =
+    on_ok c.repeat.result
+    (turns_names (plan_in c.args.spot.now) c.args.names.now c.front_of_for.new.names c.turn.new.names c.act_if_any.new.names (map plain_annot c.args.controls.0.now)
+    (option_map plain_expr c.args.controls.1.now) (option_map plain_expr c.args.controls.2.now) (plain_stmt c.args.a.now) (option_map plain_kept_variant c.in_ok-kept.kept)
+    c.in_ok-front.ensures.names c.in_ok-kept.ensures.kept c.in_ok-kept.ensures.names c.in_ok-act_if_any.ensures.names c.compare_variant.new.names c.in_ok-compare_variant.ensures.names)
+
+pub while_loop-returns-clause-code : goal.while_loop-returns-clause-code
+while_loop-returns-clause-code t c =
+    let ks = plan_in c.args.spot.now in
+    let n = c.args.names.now in
+    let annots = map plain_annot c.args.head.0.now in
+    let a = plain_stmt c.args.a.now in
+    on_ok_then c.repeat.result
+    (while_code ks n c.front_of_while.new.names c.turn.new.names annots (plain_expr c.args.head.1.now) a (option_map plain_kept_variant c.in_ok-kept.kept)
+    c.in_ok-front.ensures.names c.in_ok-kept.ensures.kept c.in_ok-kept.ensures.names c.args.a.now.place
+    (plain_spot c.args.spot.now) (plain_stmts c.args.to.now.items) (plain_stmts c.repeat.new.to.items) c.in_ok-loops.loops (plain_stmts c.in_ok-front.front.items) (plain_stmts c.turn.new.to.items)
+    (plain_stmts c.compare_variant.new.to.items)
+    c.in_ok-loops.ensures c.in_ok-front.ensures.code
+    (c.in_ok-kept.ensures.code ∙ ap (λ l. before (plain_stmts l) (turn_by ks c.front_of_while.new.names (plain_spot c.args.spot.now) annots a)) c.new-code.ensures.items)
+    c.in_ok-compare_variant.ensures.code)
+    c.repeat.ensures
+
+pub while_loop-returns-clause-names : goal.while_loop-returns-clause-names
+while_loop-returns-clause-names t c =
+    on_ok c.repeat.result
+    (while_names (plan_in c.args.spot.now) c.args.names.now c.front_of_while.new.names c.turn.new.names (map plain_annot c.args.head.0.now) (plain_expr c.args.head.1.now) (plain_stmt c.args.a.now)
+    (option_map plain_kept_variant c.in_ok-kept.kept)
+    c.in_ok-front.ensures.names c.in_ok-kept.ensures.kept c.in_ok-kept.ensures.names c.args.a.now.place c.compare_variant.new.names c.in_ok-compare_variant.ensures.names)
 
 pub round-returns-clause-code : goal.round-returns-clause-code
 round-returns-clause-code t c =
@@ -151,7 +185,7 @@ pub rest_of_for-returns-clause-code : goal.rest_of_for-returns-clause-code
 rest_of_for-returns-clause-code t c =
     on_ok_then c.leave.result (rest_code (plan_in c.args.spot.now) c.args.names.now (plain_spot c.args.spot.now) (plain_stmts c.args.to.now.items)
     (plain_stmts c.turns.new.to.items) (plain_stmts c.leave.new.to.items)
-    (option_map plain_expr c.args.controls.0.now) (option_map plain_expr c.args.controls.1.now) (plain_stmt c.args.a.now) (reverse c.args.own.items) (reverse c.deref-2.result.now)
+    (map plain_annot c.args.controls.0.now) (option_map plain_expr c.args.controls.1.now) (option_map plain_expr c.args.controls.2.now) (plain_stmt c.args.a.now) (reverse c.args.own.items) (reverse c.deref-2.result.now)
     (reverse c.deref-3.result.now)
     (inside_is c.args.spot.now.inside.now c.deref.result.now c.args.own.items _ c.deref-2.result.now c.deref.ensures.value c.in_ok-live.ensures c.deref-2.ensures.value) (ap reverse c.deref-3.ensures.value) c.in_ok-turns.ensures.code)
     c.leave.ensures
@@ -182,10 +216,10 @@ statement-returns-in_ok-own-in-For-clause-code t c =
     let first = plain_first_part c.in-For.first in
     let t0 = plain_stmts c.args.to.now.items in
     subst (λ (y : Statement). OnOk c.rest_of_for.result (plain_stmts c.rest_of_for.new.to.items ≡ before t0 (statement_by (plan_in c.args.spot.now) n spot y)))
-    (for_stmt c.args.s.now c.in-For.field-0 c.in-For.first c.in-For.e c.in-For.step c.in-For.a c.in-For.a (sym c.deref.ensures ∙ c.in-For.is) refl)
+    (for_stmt c.args.s.now c.in-For.annots c.deref-in-For.result.now c.in-For.first c.in-For.e c.in-For.step c.in-For.a c.in-For.a (sym c.deref.ensures ∙ c.in-For.is) c.deref-in-For.ensures.value refl)
     (on_ok_then c.rest_of_for.result (λ last.
     for_code (plan_in c.args.spot.now) n spot t0 (plain_stmts c.enter_for.new.to.items) (plain_stmts c.rest_of_for.new.to.items) first c.enter_for.new.names c.args.s.now.place
-    (map plain_annot c.in-For.field-0.items) (option_map plain_expr c.in-For.e) (option_map plain_expr c.in-For.step) (plain_stmt c.in-For.a) (reverse c.in_ok-own-in-For.own.items)
+    (map plain_annot c.deref-in-For.result.now) (option_map plain_expr c.in-For.e) (option_map plain_expr c.in-For.step) (plain_stmt c.in-For.a) (reverse c.in_ok-own-in-For.own.items)
     c.in_ok-own-in-For.ensures.own c.in_ok-own-in-For.ensures.code c.in_ok-own-in-For.ensures.names last)
     c.rest_of_for.ensures.code)
 
@@ -193,17 +227,19 @@ pub statement-returns-in_ok-own-in-For-clause-names : goal.statement-returns-in_
 statement-returns-in_ok-own-in-For-clause-names t c =
     let n = c.args.names.now in
     let a = c.in-For.a in
-    subst (λ (y : Statement). OnOk c.rest_of_for.result (c.rest_of_for.new.names ≡ after (plan_in c.args.spot.now) y n)) (for_stmt c.args.s.now c.in-For.field-0 c.in-For.first c.in-For.e c.in-For.step a a (sym c.deref.ensures ∙ c.in-For.is) refl)
+    subst (λ (y : Statement). OnOk c.rest_of_for.result (c.rest_of_for.new.names ≡ after (plan_in c.args.spot.now) y n))
+    (for_stmt c.args.s.now c.in-For.annots c.deref-in-For.result.now c.in-For.first c.in-For.e c.in-For.step a a (sym c.deref.ensures ∙ c.in-For.is) c.deref-in-For.ensures.value refl)
     (on_ok_then c.rest_of_for.result
-    (for_names (plan_in c.args.spot.now) n c.enter_for.new.names c.rest_of_for.new.names c.args.s.now.place (map plain_annot c.in-For.field-0.items) (plain_first_part c.in-For.first)
+    (for_names (plan_in c.args.spot.now) n c.enter_for.new.names c.rest_of_for.new.names c.args.s.now.place (map plain_annot c.deref-in-For.result.now) (plain_first_part c.in-For.first)
     (option_map plain_expr c.in-For.e) (option_map plain_expr c.in-For.step)
     (plain_stmt a) c.in_ok-own-in-For.ensures.names)
     c.rest_of_for.ensures.names)
 
 pub statement-returns-in_ok-own-in-For-clause-numbers : goal.statement-returns-in_ok-own-in-For-clause-numbers
 statement-returns-in_ok-own-in-For-clause-numbers t c =
-    subst (λ (y : Statement). OnOk c.rest_of_for.result (HasNumbers y)) (for_stmt c.args.s.now c.in-For.field-0 c.in-For.first c.in-For.e c.in-For.step c.in-For.a c.in-For.a (sym c.deref.ensures ∙ c.in-For.is) refl)
-    (on_ok_then c.rest_of_for.result (λ l. (c.in_ok-own-in-For.ensures.numbers, l.0, l.1, l.2)) c.rest_of_for.ensures.numbers)
+    subst (λ (y : Statement). OnOk c.rest_of_for.result (HasNumbers y))
+    (for_stmt c.args.s.now c.in-For.annots c.deref-in-For.result.now c.in-For.first c.in-For.e c.in-For.step c.in-For.a c.in-For.a (sym c.deref.ensures ∙ c.in-For.is) c.deref-in-For.ensures.value refl)
+    (on_ok_then c.rest_of_for.result (λ l. (c.in_ok-own-in-For.ensures.numbers, l.0, l.1, l.2, l.3)) c.rest_of_for.ensures.numbers)
 
 pub statement-returns-in-Switch-clause-code : goal.statement-returns-in-Switch-clause-code
 statement-returns-in-Switch-clause-code t c =
