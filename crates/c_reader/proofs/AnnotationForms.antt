@@ -1,65 +1,48 @@
--- Annotations that are read are asserts or contracts of forms that are counted by no more tokens than they have, and no number in them is below the least value of 64
--- bits. An operand whose operator binds no closer than the one beside it stands in parentheses, which are two tokens.
+-- Forms that are read are counted by no more tokens than they have, and no number in them is below the least value of 64 bits. An operand whose operator binds no closer than
+-- the one beside it stands in parentheses, which are two tokens.
 use Rattle.std.proofs.Common.{◌≡◌, ℕ, suc, ◌+◌, ◌≤◌, ℤ, pos, ◌≤ℤ◌, Bool, true, false, cond, eqb, List, [], ◌∷◌, ◌++◌, Option, Some, None, refl, subst, arith}
 use Rattle.std.proofs.lemmas.Int.{ints}
 use Rattle.std.specs.List.{AllByRecursion}
 use Rattle.grammar.specs.Syntax.{Syntax, one, ◌then◌}
-use Rattle.grammar.proofs.Readings.{each_more, each_none, each_gives, each_one, each_then, each_choice, each_at_most, each_many, each_knot}
+use Rattle.grammar.proofs.Readings.{each_more, each_none, each_gives, each_one, each_then, each_choice, each_many, each_knot}
 use Rattle.c_syntax.specs.declared.place.Place.{Place}
 use Rattle.c_syntax.specs.declared.types.CInt.{CInt}
 use Rattle.c_syntax.specs.declared.annotation.Relation.{Relation}
 use Rattle.c_syntax.specs.declared.expression.BinOp.TheVariants.{Add}
 use Rattle.c_syntax.specs.Formulas.{CastType, Integers, OfC, Form, SizeOf, Told, Asks, Separated, Old, At, FormLinks, NoLink, Linked, FormZone}
-use Rattle.c_syntax.specs.declared.annotation.Kind.{Kind}
-use Rattle.c_syntax.specs.declared.annotation.Kind.TheVariants.{Assert, Requires, Assumes, Ensures, Complete, Disjoint}
-use Rattle.c_syntax.specs.Logic.{ClauseBody, Annotation}
-use Rattle.c_syntax.specs.Programs.{NamedBehavior, FunctionContract}
 use Rattle.c_syntax.specs.Tokens as token
 use Rattle.c_syntax.specs.Tokens.{PlainTokenKind, PlainToken}
 use Rattle.c_model.specs.declared.formulas.FormulaMode.{FormulaMode}
 use Rattle.c_model.specs.declared.formulas.FormulaMode.TheVariants.{Alone, Zone}
 use Rattle.c_model.specs.declared.formulas.FormulaOperator.{FormulaOperator}
 use Rattle.c_model.specs.declared.formulas.FormulaOperator.TheVariants.{Term, Predicate}
-use Rattle.c_model.specs.declared.formulas.ClauseGroup.{ClauseGroup}
-use Rattle.c_model.specs.declared.formulas.ClauseGroup.TheVariants as group
-use Rattle.c_model.specs.declared.vocabulary.ClauseWord.{ClauseWord}
-use Rattle.c_model.specs.declared.vocabulary.ClauseWord.TheVariants as clause
 use Rattle.c_model.specs.declared.formulas.ChainDirection.{ChainDirection}
 use Rattle.c_model.specs.declared.formulas.ChainDirection.TheVariants.{Start}
 use Rattle.c_model.specs.declared.vocabulary.Keyword.TheVariants as keyword
 use Rattle.c_model.specs.Vocabulary.{Vocabulary}
 use Rattle.c_model.specs.Punctuators.{plus, question, colon, semicolon, comma, dot, arrow, dots, left_bracket, right_bracket, left_paren, right_paren, implies}
-use Rattle.c_model.specs.ExpressionGrammar.{name_kind, number_kind, letter_kind, null_kind, fact_kind, question_kind, separated_kind, result_kind, old_kind, at_kind, annot_open_kind, annot_close_kind, keyword_kind, mark_kind, letter_of}
-use Rattle.c_model.specs.ExpressionGrammar.{number_of, kinds_of}
-use Rattle.c_model.specs.ExpressionGrammar.{first_type, type_name, expression}
-use Rattle.c_model.specs.ExpressionGrammar.{any_name}
+use Rattle.c_model.specs.ExpressionGrammar.{name_kind, number_kind, letter_kind, null_kind, fact_kind, question_kind, separated_kind, result_kind, old_kind, at_kind, quantifier_kind, keyword_kind, mark_kind, letter_of, number_of, kinds_of}
+use Rattle.c_model.specs.ExpressionGrammar.{first_type, type_name, expression, any_name, mark}
 use Rattle.c_model.specs.Terminals.{placed, entry, mark_entry}
 use Rattle.c_model.specs.AnnotationGrammar.{integer_kind, formula_kind, prefix_operators, product_operators, sum_operators, difference_operators, shift_operators, bit_and_operators, bit_xor_operators, bit_or_operators}
-use Rattle.c_model.specs.AnnotationGrammar.{conjunction_operators, exclusion_operators}
-use Rattle.c_model.specs.AnnotationGrammar.{disjunction_operators, equivalence_operators, relations_behind, direction_behind, joined_forms, chained, integer_word, named_form, literal_form, null_form, sized_form, atom, cast_behind}
-use Rattle.c_model.specs.AnnotationGrammar.{cast_to_type, cast_to_integer}
-use Rattle.c_model.specs.AnnotationGrammar.{FormRange, range_at, Spanned, zone_of, zones_of, unended_kinds, unended, unended_only, as_it_is, first_behind, told_form, asked_form, next_zone, some_zones, separated_form, result_form, old_form}
-use Rattle.c_model.specs.AnnotationGrammar.{labelled_form, worded, indexed}
-use Rattle.c_model.specs.AnnotationGrammar.{dotted, pointed, postfix_once, postfixes}
-use Rattle.c_model.specs.AnnotationGrammar.{worded_postfix, closed_postfix, parenthesised, behind_parenthesis, prefixed, bare_prefix, prefix_of, prefix, joined_once, joined_more, joined, factor, added_rest, ranged, behind_first}
-use Rattle.c_model.specs.AnnotationGrammar.{added_parenthesis, added, sum_once, sum_more, zone_sum}
-use Rattle.c_model.specs.AnnotationGrammar.{linked, links_of, links, chain_behind, chain_of, implied, implication_behind, implication_of, whole, zone}
-use Rattle.c_model.specs.AnnotationGrammar.{product, sum, shift, chain, bit_or, chosen_behind, choice_behind, disjunction, implication, form_of, forms, form}
-use Rattle.c_model.specs.ClauseGrammar.{ReadAnnotation, clause_word, kind_in, cover_kind, kind_among, fixed_word, clause_kind, first_in, first_cover, behavior_kind, behaviors_kind, form_clause, full_clause, next_clause, more_clauses, asserts}
-use Rattle.c_model.specs.ClauseGrammar.{behavior, next_behavior, more_behaviors, behavior_names, cover_clause, full_cover, next_cover, more_covers, behaviors_and_covers, own_first, behavior_first, cover_first, contract, clauses, annotations}
-use Rattle.c_model.specs.Formed.{level_of, parentheses_around, operator_of_form, IsLogicNumber, tokens_of_form, tokens_of_form_links, tokens_of_form_zone, tokens_of_form_zones, FormNumbered, FormLinksNumbered, FormZoneNumbered, FormZonesNumbered}
-use Rattle.c_model.specs.Formed.{IsShortReading, AreReadAsserts}
-use Rattle.c_model.specs.FormedContracts.{IsOwnKind, IsBehaviorKind, IsCoverKind, NamesBehaviors, IsClauseOf, AreClausesOf, BehaviorsFormed, ContractFormed, MaybeFormed}
+use Rattle.c_model.specs.AnnotationGrammar.{conjunction_operators, exclusion_operators, disjunction_operators, equivalence_operators, relations_behind, direction_behind, joined_forms, chained, integer_word, named_form, literal_form}
+use Rattle.c_model.specs.AnnotationGrammar.{null_form, sized_form, atom, cast_behind, cast_to_type, cast_to_integer, formula_name_of, placed_name, next_name, some_names, binder_type, FormEnd, ByRange, ByQuantifier, quantifier_end, endless}
+use Rattle.c_model.specs.AnnotationGrammar.{binders, quantified, Spanned, zone_of, zones_of, unended_kinds, unended, unended_only, as_it_is, first_behind, told_form, asked_form, next_zone, some_zones, separated_form, result_form, old_form}
+use Rattle.c_model.specs.AnnotationGrammar.{labelled_form, worded, indexed, dotted, pointed, postfix_once, postfixes, worded_postfix, closed_postfix, parenthesised, behind_parenthesis, prefixed, bare_prefix, prefix_of, prefix, joined_once}
+use Rattle.c_model.specs.AnnotationGrammar.{joined_more, joined, added_rest, ranged, behind_first, added_parenthesis, added, sum_once, sum_more, zone_sum, linked, links_of, links, chain_behind, chain_of, implied, implication_behind}
+use Rattle.c_model.specs.AnnotationGrammar.{implication_of, whole, zone, product, sum, shift, chain, bit_or, chosen_behind, choice_behind, disjunction, implication, form_of, forms, form}
+use Rattle.c_model.specs.Formed.{level_of, parentheses_around, operator_of_form, IsLogicNumber, tokens_of_form, tokens_of_form_links, tokens_of_form_zone, tokens_of_form_zones, FormNumbered, FormLinksNumbered, FormZoneNumbered}
+use Rattle.c_model.specs.Formed.{FormZonesNumbered, IsApart, AreApart}
 use Rattle.c_model.proofs.OperandParentheses.{around_two, around_fewer, around_own}
 use Rattle.c_model.specs.LetterValues.{IsCharacter}
-use Rattle.c_reader.proofs.TokenForms.{IsLexedKind, Each, each_token, each_letter, each_any, placed_is}
+use Rattle.c_reader.proofs.TokenForms.{IsLexedKind, IsWordApart, Each, each_token, each_letter, each_any, placed_is, placed_at}
 use Rattle.c_reader.proofs.ExpressionForms.{each_fixed, closed_each}
 
 -- ---- forms of so many tokens at most
 
-record IsFormPart (k : ℕ) (f : Form) : Type 0 where
-  is : FormNumbered f
-  few : tokens_of_form f ≤ k
+pub record IsFormPart (k : ℕ) (f : Form) : Type 0 where
+  pub is : FormNumbered f
+  pub few : tokens_of_form f ≤ k
 
 -- beside an operator of this level, with the parentheses that it has there
 record IsOperand (l k : ℕ) (f : Form) : Type 0 where
@@ -88,13 +71,24 @@ part_operand n k f p = record { is = p.is; few = omega (arith, p.few, around_two
 
 -- ---- ranges and zones
 
-abbrev range_tokens : Option FormRange → ℕ
+abbrev range_tokens : Option FormEnd → ℕ
 range_tokens None = 0
-range_tokens (Some r) = suc (tokens_of_form r.lo + tokens_of_form r.hi)
+range_tokens (Some (ByRange at lo hi)) = suc (tokens_of_form lo + tokens_of_form hi)
+range_tokens (Some ByQuantifier) = 0
 
-abbrev RangeNumbered : Option FormRange → Type 0
+abbrev RangeNumbered : Option FormEnd → Type 0
 RangeNumbered None = Unit {0}
-RangeNumbered (Some r) = FormNumbered r.lo × FormNumbered r.hi
+RangeNumbered (Some (ByRange at lo hi)) = FormNumbered lo × FormNumbered hi
+RangeNumbered (Some ByQuantifier) = Unit {0}
+
+-- a quantifier has the range that ends its form
+end_tokens : (e : Option FormEnd) → range_tokens (Some (quantifier_end e)) ≡ range_tokens e
+end_tokens None = refl
+end_tokens (Some e) = refl
+
+end_numbered : (e : Option FormEnd) → RangeNumbered e → RangeNumbered (Some (quantifier_end e))
+end_numbered None h = tt
+end_numbered (Some e) h = h
 
 -- what is P at the number of its own tokens, and maybe a range
 record IsSpanned {A : Type 0} (P : ℕ → A → Type 0) (k : ℕ) (x : Spanned A) : Type 0 where
@@ -118,7 +112,8 @@ record IsZonePart (k : ℕ) (z : FormZone) : Type 0 where
 
 zone_part : (k : ℕ) (x : Spanned Form) → IsSpanned IsFormPart k x → IsZonePart k (zone_of x)
 zone_part k (a, None) p = record { is = p.part.is; few = omega (arith, p.part.few, p.few) }
-zone_part k (a, Some r) p = record { is = (p.part.is, p.range.0, p.range.1); few = omega (arith, p.part.few, p.few) }
+zone_part k (a, Some (ByRange at lo hi)) p = record { is = (p.part.is, p.range.0, p.range.1); few = omega (arith, p.part.few, p.few) }
+zone_part k (a, Some ByQuantifier) p = record { is = p.part.is; few = omega (arith, p.part.few, p.few) }
 
 record AreZoneParts (k : ℕ) (zs : List FormZone) : Type 0 where
   are : FormZonesNumbered (zones_of zs)
@@ -171,60 +166,6 @@ mark_joins n table token.AnnotOpen o h e = absurd cc
 mark_joins n table token.AnnotClose o h e = absurd cc
 mark_joins n table (token.Head k w) o h e = absurd cc
 
--- ---- clauses and contracts
-
--- the kinds of clauses that stand in a group
-abbrev IsKindIn : ClauseGroup → Kind → Type 0
-IsKindIn group.Asserts k = k ≡ Assert
-IsKindIn group.Contract k = IsOwnKind k
-IsKindIn group.Behavior k = IsBehaviorKind k
-
-abbrev IsClauseIn : ClauseGroup → Annotation → Type 0
-IsClauseIn g a = IsClauseOf (IsKindIn g) IsShortReading a
-
-abbrev AreClausesIn : ClauseGroup → List Annotation → Type 0
-AreClausesIn g xs = AreClausesOf (IsKindIn g) IsShortReading xs
-
-abbrev IsCover : Annotation → Type 0
-IsCover a = IsClauseOf IsCoverKind NamesBehaviors a
-
-abbrev IsContract : FunctionContract → Type 0
-IsContract c = ContractFormed IsShortReading c
-
--- asserts, or a contract
-pub record IsReadAnnotation (x : ReadAnnotation) : Type 0 where
-  pub asserts : AreReadAsserts x.0
-  pub contract : MaybeFormed IsShortReading x.1
-
-of_kind : (P : Kind → Type 0) (j k : Kind) → Some j ≡ Some k → P j → P k
-of_kind P j k e p = let same : j ≡ k = cc in subst P same p
-
-kind_is_in : (g : ClauseGroup) (w : ClauseWord) (k : Kind) → kind_in g w ≡ Some k → IsKindIn g k
-kind_is_in group.Asserts clause.Assert k e = of_kind (λ (j : Kind). j ≡ Assert) Assert k e refl
-kind_is_in group.Contract clause.Requires k e = of_kind IsOwnKind Requires k e tt
-kind_is_in group.Contract clause.Ensures k e = of_kind IsOwnKind Ensures k e tt
-kind_is_in group.Behavior clause.Requires k e = of_kind IsBehaviorKind Requires k e tt
-kind_is_in group.Behavior clause.Assumes k e = of_kind IsBehaviorKind Assumes k e tt
-kind_is_in group.Behavior clause.Ensures k e = of_kind IsBehaviorKind Ensures k e tt
-kind_is_in _ _ k e = absurd cc
-
-kind_is_cover : (w : ClauseWord) (k : Kind) → cover_kind w ≡ Some k → IsCoverKind k
-kind_is_cover clause.Complete k e = of_kind IsCoverKind Complete k e tt
-kind_is_cover clause.Disjoint k e = of_kind IsCoverKind Disjoint k e tt
-kind_is_cover _ k e = absurd cc
-
-one_more : (IsKind : Kind → Type 0) (IsSo : ClauseBody → Type 0) (xs : List Annotation) (a : Annotation) → AreClausesOf IsKind IsSo xs → IsClauseOf IsKind IsSo a → AreClausesOf IsKind IsSo (xs ++ a ∷ [])
-one_more IsKind IsSo [] a h p = (p, tt)
-one_more IsKind IsSo (x ∷ xs) a h p = (h.0, one_more IsKind IsSo xs a h.1 p)
-
-are_asserts : (xs : List Annotation) → AreClausesIn group.Asserts xs → AreReadAsserts xs
-are_asserts [] h = tt
-are_asserts (x ∷ xs) h = (record { kind = h.0.kind; body = h.0.body }, are_asserts xs h.1)
-
-one_behavior_more : (bs : List NamedBehavior) (b : NamedBehavior) → BehaviorsFormed IsShortReading bs → AreClausesOf IsBehaviorKind IsShortReading b.clauses → BehaviorsFormed IsShortReading (bs ++ b ∷ [])
-one_behavior_more [] b h p = (p, tt)
-one_behavior_more (c ∷ bs) b h p = (h.0, one_behavior_more bs b h.1 p)
-
 -- ---- numbers
 
 not_negative : (z : ℤ) → pos 0 ≤ℤ z → IsLogicNumber z
@@ -243,9 +184,41 @@ is_number size token.AnnotOpen y h e = absurd cc
 is_number size token.AnnotClose y h e = absurd cc
 is_number size (token.Head k n) y h e = absurd cc
 
+-- ---- names, whose offsets are no number of another thing
+
+are_apart : (xs : List (Place × ℕ)) (x : Place × ℕ) → AreApart xs → IsApart x.0 → AreApart (xs ++ x ∷ [])
+are_apart [] x h p = (p, tt)
+are_apart (y ∷ xs) x h p = (h.0, are_apart xs x h.1 p)
+
+module _ (size : ℕ) (ws : Vocabulary) where
+  name_apart : (k : PlainTokenKind) (at : Place) (n : ℕ) → IsWordApart k at → formula_name_of ws k ≡ Some n → IsApart at
+  name_apart (token.Word w) at n h e = h
+  name_apart (token.Number z c) at n h e = absurd cc
+  name_apart (token.Letter z) at n h e = absurd cc
+  name_apart (token.Chars bytes) at n h e = absurd cc
+  name_apart (token.Mark m) at n h e = absurd cc
+  name_apart token.AnnotOpen at n h e = absurd cc
+  name_apart token.AnnotClose at n h e = absurd cc
+  name_apart (token.Head k m) at n h e = absurd cc
+
+  name_each : Each size (placed_name ws) (λ k x. IsApart x.0)
+  unfolding placed_name
+  name_each =
+      each_then {Q = λ k x. IsApart x.0}
+      (each_one {P = λ k x. IsApart x.1} (placed (formula_name_of ws)) (λ t x h e. subst IsApart (placed_at (formula_name_of ws) t x e) (name_apart t.kind t.place x.0 h.1 (placed_is (formula_name_of ws) t x e)))) (λ k x h. each_gives _ h)
+
+  next_name_each : (xs : List (Place × ℕ)) → AreApart xs → Each size (next_name ws xs) (λ k ys. AreApart ys)
+  unfolding next_name
+  next_name_each xs h = each_then {Q = λ k ys. AreApart ys} (each_any (mark ws comma)) (λ i at _. each_then {Q = λ k ys. AreApart ys} name_each (λ j x p. each_gives _ (are_apart xs x h p)))
+
+  names_each : Each size (some_names ws) (λ k xs. AreApart xs)
+  unfolding some_names
+  names_each =
+      each_then {Q = λ k xs. AreApart xs} name_each (λ i x h. each_many (formula_kind ws) (λ _. mark_kind comma ∷ []) {P = λ k xs. AreApart xs} (λ j xs p. next_name_each xs p) i (x ∷ []) (h, tt))
+
 module _ (size : ℕ) (ws : Vocabulary) where
   number_each : Each size (one (placed number_of)) (λ k x. (k ≡ 1) × IsLogicNumber x.0.0)
-  number_each = each_one _ (λ t x h e. (refl, is_number size t.kind x.0 h (placed_is number_of t x e)))
+  number_each = each_one _ (λ t x h e. (refl, is_number size t.kind x.0 h.0 (placed_is number_of t x e)))
 
   letter_each : Each size (one (placed letter_of)) (λ k x. (k ≡ 1) × IsLogicNumber x.0)
   letter_each = each_more (λ k x h. (h.0, character x.0 h.1)) each_letter
@@ -361,54 +334,68 @@ module _ (size : ℕ) (ws : Vocabulary) where
     unfolding worded_postfix
     worded_postfix_each = each_then worded_each (λ k x p. postfixes_each e k x p)
 
-    module _ {P : Syntax PlainToken Form} (p : Each size P (IsOperand 0)) where
-      cast_each : (at : Place) (t : CastType) → Each size (cast_behind ws P at t) (IsOperand 0)
+    module _ {P : Syntax PlainToken (Spanned Form)} (p : Each size P (IsSpanned (IsOperand 0))) where
+      cast_each : (at : Place) (t : CastType) → Each size (cast_behind ws P at t) (IsSpanned (IsOperand 0))
       unfolding cast_behind
-      cast_each at t = each_then (each_fixed size ws (mark_kind right_paren)) (λ i _ h. each_then p (λ j x q. each_gives _ (record { is = q.is; few = omega (arith, h, q.few) })))
+      cast_each at t = each_then (each_fixed size ws (mark_kind right_paren)) (λ i _ h. each_then p (λ j x q.
+          each_gives _ (record { own = suc q.own; part = record { is = q.part.is; few = omega (arith, q.part.few) }; range = q.range; few = omega (arith, h, q.few) })))
 
-      to_type_each : (at : Place) → Each size (cast_to_type ws P at) (IsOperand 0)
+      to_type_each : (at : Place) → Each size (cast_to_type ws P at) (IsSpanned (IsOperand 0))
       unfolding cast_to_type
-      to_type_each at = each_then (each_any (type_name ws (expression ws))) (λ i t _. each_more (λ j x q. operand_more 0 j (i + j) x (omega arith) q) (cast_each at (OfC t)))
+      to_type_each at = each_then (each_any (type_name ws (expression ws))) (λ i t _. each_more (λ j x q. spanned_more (IsOperand 0) j (i + j) x (omega arith) q) (cast_each at (OfC t)))
 
-      to_integer_each : (at : Place) → Each size (cast_to_integer ws P at) (IsOperand 0)
+      to_integer_each : (at : Place) → Each size (cast_to_integer ws P at) (IsSpanned (IsOperand 0))
       unfolding cast_to_integer
-      to_integer_each at = each_then (each_any (integer_word ws)) (λ i _ _. each_more (λ j x q. operand_more 0 j (i + j) x (omega arith) q) (cast_each at Integers))
+      to_integer_each at = each_then (each_any (integer_word ws)) (λ i _ _. each_more (λ j x q. spanned_more (IsOperand 0) j (i + j) x (omega arith) q) (cast_each at Integers))
 
-      prefixed_each : Each size (prefixed ws P) (IsOperand 0)
+      prefixed_each : Each size (prefixed ws P) (IsSpanned (IsOperand 0))
       unfolding prefixed
-      prefixed_each = each_then (each_token _) (λ i o h. each_then p (λ j x q. each_gives _ (record { is = q.is; few = omega (arith, h, q.few) })))
+      prefixed_each = each_then (each_token _) (λ i o h. each_then p (λ j x q.
+          each_gives _ (record { own = suc q.own; part = record { is = q.part.is; few = omega (arith, q.part.few) }; range = q.range; few = omega (arith, h, q.few) })))
 
       -- with the parenthesis before it
-      parenthesised_each : Each size (parenthesised ws E) (λ k x. IsOperand 0 (1 + k) x)
+      parenthesised_each : Each size (parenthesised ws E) (λ k x. IsSpanned (IsOperand 0) (1 + k) x)
       unfolding parenthesised
-      parenthesised_each = each_then e (λ i x q. closed_postfix_each e i x q)
+      parenthesised_each = each_then e (λ i x q. each_then (closed_postfix_each e i x q) (λ l y s. each_gives _ (bare_spanned (IsOperand 0) (1 + (i + l)) (1 + (i + (l + 0))) y (omega arith) s)))
 
-      behind_each : (at : Place) → Each size (behind_parenthesis ws E P at) (λ k x. IsOperand 0 (1 + k) x)
+      behind_each : (at : Place) → Each size (behind_parenthesis ws E P at) (λ k x. IsSpanned (IsOperand 0) (1 + k) x)
       unfolding behind_parenthesis
       behind_each at =
-          each_choice (formula_kind ws) first_type (each_more (λ k x q. operand_more 0 k (1 + k) x (omega arith) q) (to_type_each at))
-          (each_choice (formula_kind ws) (integer_kind ∷ []) (each_more (λ k x q. operand_more 0 k (1 + k) x (omega arith) q) (to_integer_each at)) parenthesised_each)
+          each_choice (formula_kind ws) first_type (each_more (λ k x q. spanned_more (IsOperand 0) k (1 + k) x (omega arith) q) (to_type_each at))
+          (each_choice (formula_kind ws) (integer_kind ∷ []) (each_more (λ k x q. spanned_more (IsOperand 0) k (1 + k) x (omega arith) q) (to_integer_each at)) parenthesised_each)
 
-      bare_prefix_each : Each size (bare_prefix ws E Z P) (IsOperand 0)
+    endless_each : {G : Syntax PlainToken Form} → Each size G (IsOperand 0) → Each size (endless G) (IsSpanned (IsOperand 0))
+    endless_each g = each_then g (λ k x p. each_gives _ (bare_spanned (IsOperand 0) k (k + 0) x (omega arith) p))
+
+    module _ {L : Syntax PlainToken (Spanned Form)} (l : Each size L (IsSpanned IsFormPart)) where
+      binders_each : Each size (binders ws) (λ k b. AreApart b.1)
+      unfolding binders
+      binders_each =
+          each_then {Q = λ k b. AreApart b.1} (each_any (binder_type ws)) (λ i t _. each_then {Q = λ k b. AreApart b.1} (names_each size ws) (λ j xs h. each_then {Q = λ k b. AreApart b.1} (each_any (mark ws semicolon)) (λ k at _. each_gives _ h)))
+
+      quantified_each : Each size (quantified ws L) (IsSpanned (IsOperand 0))
+      unfolding quantified
+      quantified_each = each_then (each_token _) (λ i q h. each_then binders_each (λ j b apart. each_then l (λ k x p.
+          each_gives _ (record { own = suc p.own; part = record { is = (apart, p.part.is); few = omega (arith, p.part.few) }; range = end_numbered x.1 p.range; few = omega (arith, h, p.few, end_tokens x.1) }))))
+
+      bare_prefix_each : {P : Syntax PlainToken (Spanned Form)} → Each size P (IsSpanned (IsOperand 0)) → Each size (bare_prefix ws E Z L P) (IsSpanned (IsOperand 0))
       unfolding bare_prefix
-      bare_prefix_each =
-          each_choice (formula_kind ws) (kinds_of prefix_operators) prefixed_each (each_choice (formula_kind ws) (keyword_kind keyword.Sizeof ∷ []) sized_each worded_postfix_each)
+      bare_prefix_each p =
+          each_choice (formula_kind ws) (kinds_of prefix_operators) (prefixed_each p)
+          (each_choice (formula_kind ws) (keyword_kind keyword.Sizeof ∷ []) (endless_each sized_each)
+          (each_choice (formula_kind ws) (quantifier_kind ∷ []) quantified_each (endless_each worded_postfix_each)))
 
-      prefix_of_each : Each size (prefix_of ws E Z P) (IsOperand 0)
+      prefix_of_each : {P : Syntax PlainToken (Spanned Form)} → Each size P (IsSpanned (IsOperand 0)) → Each size (prefix_of ws E Z L P) (IsSpanned (IsOperand 0))
       unfolding prefix_of
-      prefix_of_each =
-          each_choice (formula_kind ws) (mark_kind left_paren ∷ []) (each_then (each_fixed size ws (mark_kind left_paren)) (λ i at h. each_more (λ j x q. operand_more 0 (1 + j) (i + j) x (omega (arith, h)) q) (behind_each at)))
-          bare_prefix_each
+      prefix_of_each p =
+          each_choice (formula_kind ws) (mark_kind left_paren ∷ []) (each_then (each_fixed size ws (mark_kind left_paren)) (λ i at h. each_more (λ j x q. spanned_more (IsOperand 0) (1 + j) (i + j) x (omega (arith, h)) q) (behind_each p at)))
+          (bare_prefix_each p)
 
-    prefix_each : Each size (prefix ws E Z) (IsOperand 0)
-    unfolding prefix
-    prefix_each = each_knot {P = λ u. IsOperand 0} (λ P p u. prefix_of_each (p u)) tt
+      prefix_each : Each size (prefix ws E Z L) (IsSpanned (IsOperand 0))
+      unfolding prefix
+      prefix_each = each_knot {P = λ u. IsSpanned (IsOperand 0)} (λ P p u. prefix_of_each (p u)) tt
 
-    factor_each : Each size (factor ws E Z) (IsSpanned (IsOperand 0))
-    unfolding factor
-    factor_each = each_then prefix_each (λ k x p. each_gives _ (bare_spanned (IsOperand 0) k (k + 0) x (omega arith) p))
-
-  -- ---- what stands behind a form that no range ends
+  -- ---- what stands behind a form that nothing ends
 
   unended_each : (P : ℕ → Form → Type 0) (G : Form → Syntax PlainToken (Spanned Form)) → ((k : ℕ) (a : Form) → P k a → Each size (G a) (λ l y. IsSpanned P (k + l) y)) → (k : ℕ) (x : Spanned Form) → IsSpanned P k x
       → Each size (unended G as_it_is x) (λ l y. IsSpanned P (k + l) y)
@@ -469,75 +456,77 @@ module _ (size : ℕ) (ws : Vocabulary) where
     looser_each : Each size R (IsSpanned (IsOperand (suc n)))
     looser_each = each_more (λ k x p. spanned_of (IsOperand n) (IsOperand (suc n)) k x (λ l q. operand_looser n l x.0 q) p) r
 
-  module _ {E : Syntax PlainToken Form} (e : Each size E IsFormPart) {Z : Syntax PlainToken FormZone} (z : Each size Z IsZonePart) where
+  module _ {E : Syntax PlainToken Form} (e : Each size E IsFormPart) {Z : Syntax PlainToken FormZone} (z : Each size Z IsZonePart) {L : Syntax PlainToken (Spanned Form)} (l : Each size L (IsSpanned IsFormPart)) where
     product_all : AllJoin 0 product_operators
     product_all = (refl, (refl, (refl, tt)))
 
-    product_each : Each size (product ws E Z) (IsSpanned (IsOperand 1))
-    product_each = joined_each 0 (factor_each e z) product_operators product_all
+    product_each : Each size (product ws E Z L) (IsSpanned (IsOperand 1))
+    product_each = joined_each 0 (prefix_each e z l) product_operators product_all
 
     -- ---- sums in the mode of a zone
 
-    rest_each : (k : ℕ) (left : Form) → IsOperand 2 k left → (at : Place) (j : ℕ) (x : Form) → IsOperand 0 j x → Each size (added_rest ws E Z left at x) (λ l y. IsSpanned (IsOperand 2) (suc (k + (j + l))) y)
+    rest_each : (k : ℕ) (left : Form) → IsOperand 2 k left → (at : Place) (j : ℕ) (x : Spanned Form) → IsSpanned (IsOperand 0) j x → Each size (added_rest ws E Z L left at x) (λ l y. IsSpanned (IsOperand 2) (suc (k + (j + l))) y)
     unfolding added_rest
-    rest_each k left p at j x q = each_then (more_each 0 (factor_each e z) product_operators product_all j (x, None) (bare_spanned (IsOperand 1) j j x (omega arith) (operand_looser 0 j x q))) (λ i y s.
+    rest_each k left p at j x q = each_then (more_each 0 (prefix_each e z l) product_operators product_all j x (spanned_of (IsOperand 0) (IsOperand 1) j x (λ n u. operand_looser 0 n x.0 u) q)) (λ i y s.
         each_gives _ (record { own = suc (k + s.own); part = joined_part 1 (Term Add) at k s.own left y.0 refl (operand_part 2 k left p) s.part; range = s.range; few = omega (arith, s.few) }))
 
     -- with the parenthesis before the first form
-    behind_first_each : (k : ℕ) (left : Form) → IsOperand 2 k left → (at : Place) (j : ℕ) (x : Form) → IsFormPart j x → Each size (behind_first ws E Z left at x) (λ l y. IsSpanned (IsOperand 2) (suc (k + (1 + (j + l)))) y)
+    behind_first_each : (k : ℕ) (left : Form) → IsOperand 2 k left → (at : Place) (j : ℕ) (x : Form) → IsFormPart j x → Each size (behind_first ws E Z L left at x) (λ l y. IsSpanned (IsOperand 2) (suc (k + (1 + (j + l)))) y)
     unfolding behind_first ranged
     behind_first_each k left p at j x q =
         each_choice (formula_kind ws) (mark_kind dots ∷ [])
         (each_then (each_fixed size ws (mark_kind dots)) (λ i _ h. each_then e (λ m hi s.
-        closed_each size ws {P = λ l y. IsSpanned (IsOperand 2) (suc (k + (1 + (j + (i + (m + l)))))) y} (left, Some (range_at at x hi)) (record { own = k; part = p; range = (q.is, s.is); few = omega (arith, q.few, s.few) }))))
-        (each_then (closed_postfix_each e j x q) (λ i y s. each_more (λ l w u. spanned_more (IsOperand 2) (suc (k + ((1 + (j + i)) + l))) (suc (k + (1 + (j + (i + l))))) w (omega arith) u) (rest_each k left p at (1 + (j + i)) y s)))
+        closed_each size ws {P = λ l y. IsSpanned (IsOperand 2) (suc (k + (1 + (j + (i + (m + l)))))) y} (left, Some (ByRange at x hi)) (record { own = k; part = p; range = (q.is, s.is); few = omega (arith, q.few, s.few) }))))
+        (each_then (closed_postfix_each e j x q) (λ i y s. each_more (λ l w u. spanned_more (IsOperand 2) (suc (k + ((1 + (j + i)) + l))) (suc (k + (1 + (j + (i + l))))) w (omega arith) u)
+        (rest_each k left p at (1 + (j + i)) (y, None) (bare_spanned (IsOperand 0) (1 + (j + i)) (1 + (j + i)) y (omega arith) s))))
 
-    cast_rest_each : (k : ℕ) (left : Form) → IsOperand 2 k left → (at : Place) {G : Syntax PlainToken Form} → Each size G (IsOperand 0) → Each size (G then λ x. added_rest ws E Z left at x) (λ l y. IsSpanned (IsOperand 2) (suc (k + (1 + l))) y)
+    cast_rest_each : (k : ℕ) (left : Form) → IsOperand 2 k left → (at : Place) {G : Syntax PlainToken (Spanned Form)} → Each size G (IsSpanned (IsOperand 0))
+        → Each size (G then λ x. added_rest ws E Z L left at x) (λ l y. IsSpanned (IsOperand 2) (suc (k + (1 + l))) y)
     cast_rest_each k left p at g = each_then g (λ i x q. each_more (λ l y s. spanned_more (IsOperand 2) (suc (k + (i + l))) (suc (k + (1 + (i + l)))) y (omega arith) s) (rest_each k left p at i x q))
 
     -- with the parenthesis before it
-    added_parenthesis_each : (k : ℕ) (left : Form) → IsOperand 2 k left → (at paren : Place) → Each size (added_parenthesis ws E Z left at paren) (λ l y. IsSpanned (IsOperand 2) (suc (k + (1 + l))) y)
+    added_parenthesis_each : (k : ℕ) (left : Form) → IsOperand 2 k left → (at paren : Place) → Each size (added_parenthesis ws E Z L left at paren) (λ l y. IsSpanned (IsOperand 2) (suc (k + (1 + l))) y)
     unfolding added_parenthesis
     added_parenthesis_each k left p at paren =
-        each_choice (formula_kind ws) first_type (cast_rest_each k left p at (to_type_each e z (prefix_each e z) paren))
-        (each_choice (formula_kind ws) (integer_kind ∷ []) (cast_rest_each k left p at (to_integer_each e z (prefix_each e z) paren)) (each_then e (λ j x q. behind_first_each k left p at j x q)))
+        each_choice (formula_kind ws) first_type (cast_rest_each k left p at (to_type_each e z (prefix_each e z l) paren))
+        (each_choice (formula_kind ws) (integer_kind ∷ []) (cast_rest_each k left p at (to_integer_each e z (prefix_each e z l) paren)) (each_then e (λ j x q. behind_first_each k left p at j x q)))
 
-    added_each : (k : ℕ) (left : Form) → IsOperand 2 k left → (at : Place) → Each size (added ws E Z left at) (λ l y. IsSpanned (IsOperand 2) (suc (k + l)) y)
+    added_each : (k : ℕ) (left : Form) → IsOperand 2 k left → (at : Place) → Each size (added ws E Z L left at) (λ l y. IsSpanned (IsOperand 2) (suc (k + l)) y)
     unfolding added
     added_each k left p at =
         each_choice (formula_kind ws) (mark_kind left_paren ∷ [])
         (each_then (each_fixed size ws (mark_kind left_paren)) (λ i paren h. each_more (λ l y s. spanned_more (IsOperand 2) (suc (k + (1 + l))) (suc (k + (i + l))) y (omega (arith, h)) s) (added_parenthesis_each k left p at paren)))
-        (each_then (bare_prefix_each e z (prefix_each e z)) (λ i x q. rest_each k left p at i x q))
+        (each_then (bare_prefix_each e z l (prefix_each e z l)) (λ i x q. rest_each k left p at i x q))
 
-    sum_once_each : (k : ℕ) (left : Form) → IsOperand 2 k left → Each size (sum_once ws E Z left) (λ l y. IsSpanned (IsOperand 2) (k + l) y)
+    sum_once_each : (k : ℕ) (left : Form) → IsOperand 2 k left → Each size (sum_once ws E Z L left) (λ l y. IsSpanned (IsOperand 2) (k + l) y)
     unfolding sum_once
     sum_once_each k left p =
         each_choice (formula_kind ws) (mark_kind plus ∷ [])
         (each_then (each_fixed size ws (mark_kind plus)) (λ i at h. each_more (λ l y s. spanned_more (IsOperand 2) (suc (k + l)) (k + (i + l)) y (omega (arith, h)) s) (added_each k left p at)))
         (once_each 1 product_each difference_operators (refl, tt) k left p)
 
-    zone_sum_each : Each size (zone_sum ws E Z) (IsSpanned (IsOperand 2))
+    zone_sum_each : Each size (zone_sum ws E Z L) (IsSpanned (IsOperand 2))
     unfolding zone_sum sum_more
     zone_sum_each = each_then product_each (λ k x p.
-        each_many (formula_kind ws) (unended_kinds (kinds_of sum_operators)) {P = IsSpanned (IsOperand 2)} (λ i y q. only_each (IsOperand 2) (sum_once ws E Z) sum_once_each i y q) k x
+        each_many (formula_kind ws) (unended_kinds (kinds_of sum_operators)) {P = IsSpanned (IsOperand 2)} (λ i y q. only_each (IsOperand 2) (sum_once ws E Z L) sum_once_each i y q) k x
         (spanned_of (IsOperand 1) (IsOperand 2) k x (λ l q. operand_looser 1 l x.0 q) p))
 
-    sum_each : (m : FormulaMode) → Each size (sum ws E Z m) (IsSpanned (IsOperand 2))
+    sum_each : (m : FormulaMode) → Each size (sum ws E Z L m) (IsSpanned (IsOperand 2))
     sum_each Alone = joined_each 1 product_each sum_operators (refl, (refl, tt))
     sum_each Zone = zone_sum_each
 
     module _ (m : FormulaMode) where
-      shift_each : Each size (shift ws E Z m) (IsSpanned (IsOperand 3))
+      shift_each : Each size (shift ws E Z L m) (IsSpanned (IsOperand 3))
       shift_each = joined_each 2 (sum_each m) shift_operators (refl, (refl, tt))
 
       -- no operator of terms is a relation
-      relation_each : Each size (chain ws E Z m) (IsSpanned (IsOperand 5))
+      relation_each : Each size (chain ws E Z L m) (IsSpanned (IsOperand 5))
       relation_each = looser_each 4 (looser_each 3 (chain_each 3 shift_each))
 
-      bit_each : Each size (bit_or ws E Z m) (IsSpanned (IsOperand 8))
+      bit_each : Each size (bit_or ws E Z L m) (IsSpanned (IsOperand 8))
       bit_each = joined_each 7 (joined_each 6 (joined_each 5 relation_each bit_and_operators (refl, tt)) bit_xor_operators (refl, tt)) bit_or_operators (refl, tt)
 
-      disjunction_each : Each size (disjunction ws E Z m) (IsSpanned (IsOperand 11))
+      disjunction_each : Each size (disjunction ws E Z L m) (IsSpanned (IsOperand 11))
       disjunction_each = joined_each 10 (joined_each 9 (joined_each 8 bit_each conjunction_operators (tt, tt)) exclusion_operators (tt, tt)) disjunction_operators (tt, tt)
 
       implied_each : {I : Syntax PlainToken (Spanned Form)} → Each size I (IsSpanned (IsOperand 11)) → (k : ℕ) (a : Form) → IsOperand 11 k a → Each size (implied ws I a) (λ l y. IsSpanned (IsOperand 11) (k + l) y)
@@ -549,11 +538,11 @@ module _ (size : ℕ) (ws : Vocabulary) where
       unfolding implication_behind
       implication_behind_each i k a p = each_choice (formula_kind ws) (mark_kind implies ∷ []) (implied_each i k a p) (each_gives (a, None) (bare_spanned (IsOperand 11) k (k + 0) a (omega arith) p))
 
-      implication_of_each : {I : Syntax PlainToken (Spanned Form)} → Each size I (IsSpanned (IsOperand 11)) → Each size (implication_of ws (disjunction ws E Z m) I) (IsSpanned (IsOperand 11))
+      implication_of_each : {I : Syntax PlainToken (Spanned Form)} → Each size I (IsSpanned (IsOperand 11)) → Each size (implication_of ws (disjunction ws E Z L m) I) (IsSpanned (IsOperand 11))
       unfolding implication_of
       implication_of_each {I} i = each_then disjunction_each (λ k x p. unended_each (IsOperand 11) (implication_behind ws I) (implication_behind_each i) k x p)
 
-      implication_each : Each size (implication ws E Z m) (IsSpanned (IsOperand 11))
+      implication_each : Each size (implication ws E Z L m) (IsSpanned (IsOperand 11))
       unfolding implication
       implication_each = each_knot {P = λ u. IsSpanned (IsOperand 11)} (λ I i u. implication_of_each (i u)) tt
 
@@ -577,116 +566,12 @@ module _ (size : ℕ) (ws : Vocabulary) where
 
     form_of_each : (m : FormulaMode) → Each size (form_of ws F m) (IsSpanned IsFormPart)
     unfolding form_of
-    form_of_each m = each_then (joined_each 11 (implication_each whole_each zone_each m) equivalence_operators (tt, tt)) (λ k x p.
+    form_of_each m = each_then (joined_each 11 (implication_each whole_each zone_each (f m) m) equivalence_operators (tt, tt)) (λ k x p.
         unended_each IsFormPart (choice_behind ws (whole ws F) (F m)) (choice_each m) k x (spanned_of (IsOperand 12) IsFormPart k x (λ l q. operand_part 12 l x.0 q) p))
 
   forms_each : (m : FormulaMode) → Each size (forms ws m) (IsSpanned IsFormPart)
   unfolding forms
   forms_each m = each_knot {P = λ m. IsSpanned IsFormPart} (λ F f m. form_of_each f m) m
 
-  form_each : Each size (form ws) IsFormPart
+  pub form_each : Each size (form ws) IsFormPart
   form_each = whole_each forms_each
-
-  -- ---- clauses that say a form
-
-  -- the first word of a clause is of a kind that stands there
-  kind_is : (kinds : ClauseWord → Option Kind) (P : Kind → Type 0) → ((w : ClauseWord) (k : Kind) → kinds w ≡ Some k → P k) → (t : PlainTokenKind) (k : Kind) → kind_among ws kinds t ≡ Some k → P k
-  kind_is kinds P h t k e = by (clause_word ws t) e
-    where
-      by : (o : Option ClauseWord) → elim o [ Some c ↦ kinds c | None ↦ None ] ≡ Some k → P k
-      by (Some c) e = h c k e
-      by None e = absurd cc
-
-  kind_each : (kinds : ClauseWord → Option Kind) (P : Kind → Type 0) → ((w : ClauseWord) (k : Kind) → kinds w ≡ Some k → P k) → Each size (one (placed (kind_among ws kinds))) (λ k x. P x.0)
-  kind_each kinds P h = each_one _ (λ t x _ e. kind_is kinds P h t.kind x.0 (placed_is (kind_among ws kinds) t x e))
-
-  clause_each : (g : ClauseGroup) (n : ℕ) → Each size (form_clause ws g n) (λ k a. k ≤ 400 → IsClauseIn g a)
-  unfolding form_clause
-  clause_each g n =
-      each_then (kind_each (kind_in g) (IsKindIn g) (kind_is_in g)) (λ i w p. each_then form_each (λ j f q. each_then (each_fixed size ws (mark_kind semicolon)) (λ k _ _.
-      each_gives _ (λ le. record { kind = p; body = record { numbered = q.is; short = omega (arith, q.few, le) } }))))
-
-  full_clause_each : (g : ClauseGroup) (n : ℕ) → Each size (full_clause ws g n) (λ k a. IsClauseIn g a)
-  unfolding full_clause
-  full_clause_each g n = each_more (λ k a p. p.0 p.1) (each_at_most (clause_each g n))
-
-  next_each : (g : ClauseGroup) (x : List Annotation × ℕ) → AreClausesIn g x.0 → Each size (next_clause ws g x) (λ k y. AreClausesIn g y.0)
-  unfolding next_clause
-  next_each g x h = each_then (full_clause_each g x.1) (λ k a p. each_gives _ (one_more (IsKindIn g) IsShortReading x.0 a h p))
-
-  more_clauses_each : (g : ClauseGroup) (x : List Annotation × ℕ) → AreClausesIn g x.0 → Each size (more_clauses ws g x) (λ k y. AreClausesIn g y.0)
-  unfolding more_clauses
-  more_clauses_each g x h = each_many (clause_kind ws) (λ _. first_in g) {P = λ k y. AreClausesIn g y.0} (λ i y q. next_each g y q) 0 x h
-
-  asserts_each : (n : ℕ) → Each size (asserts ws n) (λ k x. AreReadAsserts x.0)
-  unfolding asserts
-  asserts_each n = each_then (next_each group.Asserts ([], n) tt) (λ k x p. each_more (λ l y q. are_asserts y.0 q) (more_clauses_each group.Asserts x p))
-
-  -- ---- contracts
-
-  behavior_each : (n : ℕ) → Each size (behavior ws n) (λ k x. AreClausesOf IsBehaviorKind IsShortReading x.1.clauses)
-  unfolding behavior
-  behavior_each n =
-      each_then (each_any (fixed_word ws behavior_kind)) (λ i at _. each_then (each_token _) (λ j x _. each_then (each_fixed size ws (mark_kind colon)) (λ k _ _.
-      each_then (more_clauses_each group.Behavior ([], n) tt) (λ l c p. each_gives _ p))))
-
-  next_behavior_each : (x : FunctionContract × ℕ) → IsContract x.0 → Each size (next_behavior ws x) (λ k y. IsContract y.0)
-  unfolding next_behavior
-  next_behavior_each x h =
-      each_then (behavior_each x.1) (λ k b p. each_gives _ (record { clauses = h.clauses; behaviors = one_behavior_more x.0.behaviors b.1 h.behaviors p; covers = h.covers }))
-
-  more_behaviors_each : (x : FunctionContract × ℕ) → IsContract x.0 → Each size (more_behaviors ws x) (λ k y. IsContract y.0)
-  unfolding more_behaviors
-  more_behaviors_each x h = each_many (clause_kind ws) (λ _. behavior_kind ∷ []) {P = λ k y. IsContract y.0} (λ i y q. next_behavior_each y q) 0 x h
-
-  cover_each : (n : ℕ) → Each size (cover_clause ws n) (λ k a. IsCover a)
-  unfolding cover_clause
-  cover_each n =
-      each_then (kind_each cover_kind IsCoverKind kind_is_cover) (λ i w p. each_then (each_any (fixed_word ws behaviors_kind)) (λ j _ _. each_then (each_any (behavior_names ws)) (λ k names _.
-      each_then (each_fixed size ws (mark_kind semicolon)) (λ l _ _. each_gives _ (record { kind = p; body = tt })))))
-
-  full_cover_each : (n : ℕ) → Each size (full_cover ws n) (λ k a. IsCover a)
-  unfolding full_cover
-  full_cover_each n = each_more (λ k a p. p.0) (each_at_most (cover_each n))
-
-  next_cover_each : (x : FunctionContract × ℕ) → IsContract x.0 → Each size (next_cover ws x) (λ k y. IsContract y.0)
-  unfolding next_cover
-  next_cover_each x h =
-      each_then (full_cover_each x.1) (λ k a p. each_gives _ (record { clauses = h.clauses; behaviors = h.behaviors; covers = one_more IsCoverKind NamesBehaviors x.0.covers a h.covers p }))
-
-  more_covers_each : (x : FunctionContract × ℕ) → IsContract x.0 → Each size (more_covers ws x) (λ k y. IsContract y.0)
-  unfolding more_covers
-  more_covers_each x h = each_many (clause_kind ws) (λ _. first_cover) {P = λ k y. IsContract y.0} (λ i y q. next_cover_each y q) 0 x h
-
-  behind_own_each : (x : FunctionContract × ℕ) → IsContract x.0 → Each size (behaviors_and_covers ws x) (λ k y. IsContract y.0)
-  unfolding behaviors_and_covers
-  behind_own_each x h = each_then (more_behaviors_each x h) (λ k y p. more_covers_each y p)
-
-  own_first_each : (n : ℕ) → Each size (own_first ws n) (λ k x. IsContract x.0)
-  unfolding own_first
-  own_first_each n = each_then (full_clause_each group.Contract n) (λ i a p. each_then (more_clauses_each group.Contract (a ∷ [], n + 1) (p, tt)) (λ j x q.
-      behind_own_each _ (record { clauses = q; behaviors = tt; covers = tt })))
-
-  behavior_first_each : (n : ℕ) → Each size (behavior_first ws n) (λ k x. IsContract x.0)
-  unfolding behavior_first
-  behavior_first_each n = each_then (behavior_each n) (λ i b p. behind_own_each _ (record { clauses = tt; behaviors = (p, tt); covers = tt }))
-
-  cover_first_each : (n : ℕ) → Each size (cover_first ws n) (λ k x. IsContract x.0)
-  unfolding cover_first
-  cover_first_each n = each_then (full_cover_each n) (λ i a p. more_covers_each _ (record { clauses = tt; behaviors = tt; covers = (p, tt) }))
-
-  contract_each : (n : ℕ) → Each size (contract ws n) (λ k x. IsContract x.0)
-  unfolding contract
-  contract_each n = each_choice (clause_kind ws) (first_in group.Contract) (own_first_each n) (each_choice (clause_kind ws) (behavior_kind ∷ []) (behavior_first_each n) (cover_first_each n))
-
-  -- ---- annotations
-
-  clauses_each : (n : ℕ) → Each size (clauses ws n) (λ k x. IsReadAnnotation x.0)
-  unfolding clauses
-  clauses_each n =
-      each_choice (clause_kind ws) (first_in group.Asserts) (each_then (asserts_each n) (λ k x p. each_gives _ (record { asserts = p; contract = tt })))
-      (each_then (contract_each n) (λ k x p. each_gives _ (record { asserts = tt; contract = p })))
-
-  pub annotations_each : (n : ℕ) → Each size (annotations ws n) (λ k x. IsReadAnnotation x.0)
-  unfolding annotations
-  annotations_each n = each_then (each_fixed size ws annot_open_kind) (λ i _ _. each_then (clauses_each n) (λ j x p. each_then (each_fixed size ws annot_close_kind) (λ k _ _. each_gives x p)))

@@ -20,7 +20,7 @@ use Rattle.c_model.specs.ExpressionGrammar.{name_kind, word_kind, mark_kind, kin
 use Rattle.c_model.specs.DeclarationGrammar.{Declarator, declared_by, initialisers, ended, maybe_comma, next_item, item_once, more_items, listed, lengths, dtor, full_dtor, item_of_list, first_item_of_list, list_of, list_in, initialiser}
 use Rattle.c_model.specs.DeclarationGrammar.{initialised, declared_once, next_declared, more_declared, declared_list, declaration}
 use Rattle.c_model.specs.ExpressionGrammar.{most_nested}
-use Rattle.c_model.specs.Formed.{AreReadAsserts, depth_of_item, declared_in_item, number_of}
+use Rattle.c_model.specs.Formed.{AreReadAsserts, AreReadLoopClauses, depth_of_item, declared_in_item, number_of}
 use Rattle.c_model.specs.FullExpressions.{EachInitial, EachPart, EachDeclared, EachInItem}
 use Rattle.c_model.specs.EffectPlaces.{FirstPlaced, ItemPlaced}
 use Rattle.c_model.specs.ReadTree.{Between}
@@ -131,7 +131,7 @@ module _ (size : ℕ) (old : Vocabulary) where
 
   -- a declaration, as an item or at the head of a `for`
   pub record IsDeclaration (l n : ℕ) (i : BlockItem) : Type 0 where
-    pub is : ItemPlaced AreReadAsserts i
+    pub is : ItemPlaced AreReadAsserts AreReadLoopClauses i
     pub first : FirstPlaced (First i)
     pub short : EachInItem IsFormed i
     pub flat : depth_of_item i ≡ 0
@@ -160,7 +160,7 @@ module _ (size : ℕ) (old : Vocabulary) where
     name_from l = from_one _ (λ t x h le e.
         let i = is_name t.kind x.0 (placed_is (name_of ws) t x e) in
         let at : t.place.offset ≡ x.1.offset = ap (λ (p : Place). p.offset) (placed_at (name_of ws) t x e) in
-        record { new = record { there = subst (IsLexedKind size) i.0 h; kind = later x.0 i.1 }; from = omega (arith, le, at); to = omega (arith, at) })
+        record { new = record { there = subst (IsLexedKind size) i.0 h.0; kind = later x.0 i.1 }; from = omega (arith, le, at); to = omega (arith, at) })
 
     pub ended_from : {l : ℕ} {A : Type 0} (P : ℕ → A → Type 0) (x : A) → ((n : ℕ) → l ≤ n → P n x) → From size l (ended ws x) P
     unfolding ended

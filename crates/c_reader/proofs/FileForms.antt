@@ -11,21 +11,21 @@ use Rattle.c_model.specs.declared.declarations.Storage.{Storage}
 use Rattle.c_model.specs.declared.declarations.Storage.TheVariants as storage
 use Rattle.c_model.specs.Vocabulary.{Vocabulary, word_at, declared_word}
 use Rattle.c_model.specs.Punctuators.{semicolon, comma, left_paren, left_brace, right_brace}
-use Rattle.c_model.specs.ClauseGrammar.{ReadAnnotation}
+use Rattle.c_model.specs.ClauseGrammar.{ReadAnnotation, Assertions, Contracted, Looped}
 use Rattle.c_model.specs.ExpressionGrammar.{annot_open_kind, mark_kind, kind, mark, pointers, most_nested}
 use Rattle.c_model.specs.DeclarationGrammar.{Declarator, Definitions, names_function, ended, declared_by, nameless}
 use Rattle.c_model.specs.ProgramGrammar.{FileParts, no_parts, with_typedef, with_nameless, block_items, function_with, has_contract, taken, contract_taken, after_contract, awaiting_nothing, after_placed, after_misplaced, without, unit_with}
 use Rattle.c_model.specs.ProgramGrammar.{function_rest, function, globals, behind_declarator, declared_at_file}
 use Rattle.c_model.specs.ProgramGrammar.{next_typedef, more_typedefs, typedefs, behind_spec, next_stray, strays, declared_external, external, any_kind, more_external, unit}
 use Rattle.c_model.specs.FormedContracts.{MaybeFormed}
-use Rattle.c_model.specs.Formed.{AreReadAsserts, IsShortReading, declared_in_body, declared_in_items, number_of, numbers_of}
+use Rattle.c_model.specs.Formed.{AreReadAsserts, AreReadLoopClauses, IsShortReading, declared_in_body, declared_in_items, number_of, numbers_of}
 use Rattle.c_model.specs.FullExpressions.{EachInBody}
-use Rattle.c_model.specs.PlacedForms.{annotations_at, contract_at, body_at, functions_at}
+use Rattle.c_model.specs.PlacedForms.{contract_at, body_at, functions_at}
 use Rattle.c_model.specs.UnitTyping.{AFunction}
 use Rattle.c_model.specs.ReadTree.{Between, FunctionRead}
-use Rattle.c_reader.proofs.AnnotationForms.{IsReadAnnotation, annotations_each}
+use Rattle.c_reader.proofs.ClauseForms.{IsReadAnnotation, annotations_each}
 use Rattle.c_reader.proofs.Places.{Within, within_none, within_two, within_fewer, within_wider}
-use Rattle.c_reader.proofs.FormPlaces.{annotations_from}
+use Rattle.c_reader.proofs.FormPlaces.{annotation_at, annotations_from}
 use Rattle.c_reader.proofs.PlacedReadings.{From, from_gives, from_then, from_choice, from_cond, from_any, from_each, from_both, from_many, between_lower, between_higher, between_joined, IsPlaceWithin, fixed_from}
 use Rattle.c_reader.proofs.ExpressionForms.{IsFormed}
 use Rattle.c_reader.proofs.Covers.{held, IsApart, apart_held, apart_higher, apart_more, apart_same}
@@ -81,7 +81,7 @@ module _ (size : ℕ) (old : Vocabulary) where
     pub body : AllByRecursion (λ (d : Declaration). IsNewName size old d.name) (declared_in_body f.body)
 
   pub record IsFunction (n : ℕ) (f : Function) : Type 0 where
-    pub read : FunctionRead AreReadAsserts f
+    pub read : FunctionRead AreReadAsserts AreReadLoopClauses f
     pub contract : MaybeFormed IsShortReading f.contract
     pub short : EachInBody IsFormed f.body
     pub declares : DeclaresNames f
@@ -361,10 +361,15 @@ module _ (size : ℕ) (old : Vocabulary) where
     formed : MaybeFormed IsShortReading s.1
     annots : Within l n (λ o. contract_at o s.1)
 
-  behind_stray : (l n : ℕ) (s : AnnotationState × Option FunctionContract) (y : ReadAnnotation × ℕ) → l ≤ n → IsReadAnnotation y.0 → Within l n (λ o. annotations_at o y.0.0 + contract_at o y.0.1)
-      → IsStray l n (elim y.0.1 [ None ↦ (after_misplaced (without s.0 s.1) y, None) | Some c ↦ (after_placed (without s.0 s.1) y.1, Some c) ])
-  behind_stray l n s ((a, None), k) le h g = record { on = le; formed = tt; annots = within_none l n le }
-  behind_stray l n s ((a, Some c), k) le h g = record { on = le; formed = h.contract; annots = within_fewer g (λ o. omega arith) }
+  behind_stray : (l n : ℕ) (s : AnnotationState × Option FunctionContract) (y : ReadAnnotation × ℕ) → l ≤ n → IsReadAnnotation y.0 → Within l n (λ o. annotation_at o y.0)
+      → IsStray l n (elim y.0 [
+        | Assertions asserts ↦ (after_misplaced (without s.0 s.1) y, None)
+        | Contracted c ↦ (after_placed (without s.0 s.1) y.1, Some c)
+        | Looped o ↦ (after_misplaced (without s.0 s.1) y, None)
+      ])
+  behind_stray l n s (Assertions a, k) le h g = record { on = le; formed = tt; annots = within_none l n le }
+  behind_stray l n s (Contracted c, k) le h g = record { on = le; formed = h; annots = g }
+  behind_stray l n s (Looped o, k) le h g = record { on = le; formed = tt; annots = within_none l n le }
 
   stray_from : (ws : Vocabulary) (l m : ℕ) (s : AnnotationState × Option FunctionContract) → IsStray l m s → From size m (next_stray ws s) (IsStray l)
   unfolding next_stray

@@ -5,7 +5,7 @@ use Rattle.std.specs.Prelude.{codes}
 use Rattle.c_syntax.specs.Ctypes.{int_type}
 use Rattle.c_syntax.specs.Programs.{Function, TranslationUnit}
 use Rattle.c_model.specs.AcceptedPrograms.{IsProgram}
-use Rattle.c_model.specs.Formed.{AreReadAsserts}
+use Rattle.c_model.specs.Formed.{AreReadAsserts, AreReadLoopClauses}
 use Rattle.c_model.specs.Meaning.{function_named}
 use Rattle.c_model.specs.Phases.{AcceptedText}
 use Rattle.c_model.specs.ReadTree.{FunctionsRead}
@@ -23,7 +23,7 @@ use Rattle.c_reader.specs.Programs.{JudgementsAreInSight}
 use Rattle.c_reader.proofs.AcceptedTexts.{accepted_program}
 
 pub typed_trees_keep_asserts : TypedTreesKeepAsserts
-typed_trees_keep_asserts tree typed t is = subst (FunctionsRead AreReadAsserts) (sym (typed_in_order tree typed t.order is).functions) (forms_kept tree typed t is)
+typed_trees_keep_asserts tree typed t is = subst (FunctionsRead AreReadAsserts AreReadLoopClauses) (sym (typed_in_order tree typed t.order is).functions) (forms_kept tree typed t is)
 
 pub letters_are_characters : LettersAreCharacters
 letters_are_characters text p a = (accepted_program text p a).characters

@@ -3,6 +3,7 @@ pub mod TokenForms
 pub mod PlacedReadings
 pub mod ExpressionForms
 pub mod AnnotationForms
+pub mod ClauseForms
 pub mod DeclarationForms
 pub mod Places
 pub mod FormPlaces

@@ -54,7 +54,7 @@ module _ (text : List ℕ) (ts : PlainTokens) (has : tokens_of text ≡ Ok ts) w
   pub refused_by_grammar : (e : FrontFault) → parser.Refuses e ts → Refuses e text
   refused_by_grammar front.Memory g = tt
   refused_by_grammar (front.Refused x) (inl g) = ByGrammar ts g.fault has g.found g.is
-  refused_by_grammar (front.Refused x) (inr g) = ByPlaces ts g.tree g.place has g.found g.is
+  refused_by_grammar (front.Refused x) (inr g) = ByPlaces ts g.tree g.fault has g.found g.is
 
   module _ (tree : TranslationUnit) (read : IsRead ts tree) where
     is_typed : (typed : TranslationUnit) → typed_unit tree ≡ Good typed → IsTyped text ts tree typed

@@ -14,7 +14,7 @@ use Rattle.c_model.specs.ProgramGrammar.{FileParts, texts_of, unit_with}
 use Rattle.c_model.specs.Phases.{vocabulary, IsRead}
 use Rattle.c_model.specs.FullExpressions.{EachInFunctions}
 use Rattle.c_model.specs.FormedContracts.{ContractsFormed}
-use Rattle.c_model.specs.Formed.{AreReadAsserts, IsShortReading, AreNamed, AreNamedParameters, FunctionsNamed, declared_in_body}
+use Rattle.c_model.specs.Formed.{AreReadAsserts, AreReadLoopClauses, IsShortReading, AreNamed, AreNamedParameters, FunctionsNamed, declared_in_body}
 use Rattle.c_model.specs.ReadTree.{Between, IsShort, FunctionsRead, AreBytes, TextsAreBytes, ReadTree}
 use Rattle.c_model.specs.LetterValues.{LettersFit}
 use Rattle.c_reader.proofs.TokenForms.{IsLexed}
@@ -51,7 +51,7 @@ module _ (names : List (List ℕ)) (words : AllByRecursion IsWord names) where
 -- ---- functions
 
 module _ (size : ℕ) (old : Vocabulary) where
-  functions_read : (n : ℕ) (fs : List Function) → AllByRecursion (IsFunction size old n) fs → FunctionsRead AreReadAsserts fs
+  functions_read : (n : ℕ) (fs : List Function) → AllByRecursion (IsFunction size old n) fs → FunctionsRead AreReadAsserts AreReadLoopClauses fs
   functions_read n [] h = tt
   functions_read n (f ∷ fs) h = (h.0.read, functions_read n fs h.1)
 
@@ -81,7 +81,7 @@ texts_are_bytes size [] h = tt
 texts_are_bytes size (t ∷ ts) h = by t.kind t.place h.0 (texts_are_bytes size ts h.1)
   where
     by : (k : PlainTokenKind) (at : Place) → IsLexed size (record { place = at; kind = k }) → TextsAreBytes (texts_of ts) → TextsAreBytes (texts_of (record { place = at; kind = k } ∷ ts))
-    by (token.Chars bytes) at g rest = (g, rest)
+    by (token.Chars bytes) at g rest = (g.0, rest)
     by (token.Word n) at g rest = rest
     by (token.Number z c) at g rest = rest
     by (token.Letter z) at g rest = rest
@@ -117,7 +117,7 @@ file_is_read ts n x le words list h =
 
 pub tree_is_read : (text : List ℕ) (ts : PlainTokens) (p : TranslationUnit) → AreBytes text → length text < 4294967295 → tokens_of text ≡ Ok ts → IsRead ts p → ReadTree p
 tree_is_read text ts p bytes few has read =
-    let lex = lexed text ts bytes has in
-    let u = (unit_from (length ts.names) (vocabulary ts) ts.names (texts_of ts.list)).holds ts.list (p, None) lex.end lex.list lex.reach read.reading in
+    let lex = lexed text ts bytes few has in
+    let u = (unit_from (length ts.names) (vocabulary ts) ts.names (texts_of ts.list)).holds ts.list (p, None) lex.end lex.list lex.reach read.reading.reading in
     let below : lex.end ≤ 4294967295 = omega (arith, few, lex.below) in
     subst ReadTree (sym u.is) (file_is_read ts lex.end u.parts below lex.names lex.list u.file)

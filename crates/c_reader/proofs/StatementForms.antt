@@ -9,21 +9,22 @@ use Rattle.c_model.specs.declared.vocabulary.Keyword.TheVariants as keyword
 use Rattle.c_model.specs.Vocabulary.{Vocabulary}
 use Rattle.c_model.specs.Punctuators.{semicolon, colon, left_paren, right_paren, left_brace, right_brace}
 use Rattle.c_model.specs.ExpressionGrammar.{name_kind, annot_open_kind, keyword_kind, mark_kind, kind, first_type, first_expression, mark, reserved, name, closed}
-use Rattle.c_model.specs.ClauseGrammar.{ReadAnnotation}
-use Rattle.c_model.specs.ProgramGrammar.{Numbered, ReadCase, cases_of, first_branch, first_case, first_item, is_open, block_items, misplaced, after_misplaced, run_item, behind_annotation, annotated_item, condition}
+use Rattle.c_syntax.specs.Logic.{Annotation}
+use Rattle.c_model.specs.ClauseGrammar.{ReadAnnotation, Assertions, Contracted, Looped}
+use Rattle.c_model.specs.ProgramGrammar.{Numbered, Annotated, Looping, ReadCase, cases_of, first_loop, first_branch, first_case, first_item, is_open, block_items, nothing, run_item, behind_annotation, annotated_item, condition}
 use Rattle.c_model.specs.ProgramGrammar.{else_branch, else_part, selection, while_loop, do_loop, for_first}
 use Rattle.c_model.specs.ProgramGrammar.{maybe_ended, returned, for_behind, for_loop, jump}
 use Rattle.c_model.specs.ProgramGrammar.{return_statement, item, items_once, items, block, case_label, case_item, case_items_once, case_items, next_case, cases, switch_statement, empty_statement, effect_statement, effect_behind}
-use Rattle.c_model.specs.ProgramGrammar.{labelled_statement, named_statement, statement_of, branch_of}
-use Rattle.c_model.specs.ProgramGrammar.{statement_in, branch_in, inside_in}
-use Rattle.c_model.specs.PlacedForms.{statement_at, cases_at, first_at, item_at, items_at}
+use Rattle.c_model.specs.ProgramGrammar.{labelled_statement, named_statement, loop_of, unlooped_of, statement_of, branch_of, inside_of, too_deep}
+use Rattle.c_model.specs.ProgramGrammar.{statement_in, branch_in, behind_in, inside_in}
+use Rattle.c_model.specs.PlacedForms.{annotations_at, statement_at, cases_at, first_at, item_at, items_at}
 use Rattle.c_model.specs.TypedTrees.{WhereAny}
-use Rattle.c_model.specs.Formed.{AreReadAsserts, depth, depth_of_cases, depth_of_item, depth_of_items, declared_within, declared_in_cases, declared_in_first, declared_in_item, declared_in_items}
+use Rattle.c_model.specs.Formed.{AreReadAsserts, AreReadLoopClauses, depth, depth_of_cases, depth_of_item, depth_of_items, declared_within, declared_in_cases, declared_in_first, declared_in_item, declared_in_items}
 use Rattle.c_model.specs.FullExpressions.{EachIn, EachInCases, EachInFirst, EachInItem, EachInItems}
 use Rattle.c_model.specs.EffectPlaces.{IsNoDeclaration, DeclareNothing, FirstPlaced, StatementPlaced, CasesPlaced, ItemPlaced, ItemsPlaced}
 use Rattle.c_reader.proofs.ExpressionForms.{IsFormed, full_each, full_placed_each, full_nameless_each, full_behind_each}
 use Rattle.c_model.specs.DeclarationGrammar.{declaration, ended}
-use Rattle.c_reader.proofs.AnnotationForms.{IsReadAnnotation, annotations_each}
+use Rattle.c_reader.proofs.ClauseForms.{IsReadAnnotation, annotations_each}
 use Rattle.c_reader.proofs.Places.{Within, within_none, within_two, within_as, within_wider}
 use Rattle.c_reader.proofs.FormPlaces.{AnnotationIn, annotations_from}
 use Rattle.c_reader.proofs.PlacedReadings.{From, from_none, from_more, from_gives, from_then, from_choice, from_cond, from_any, from_each, from_both, from_many}
@@ -33,7 +34,7 @@ use Rattle.c_reader.proofs.DeclarationForms.{IsLater, Declares, declares_none, d
 
 -- an item in which statements stand at most d deep
 pub record IsItem (d : ℕ) (i : BlockItem) : Type 0 where
-  pub is : ItemPlaced AreReadAsserts i
+  pub is : ItemPlaced AreReadAsserts AreReadLoopClauses i
   pub short : EachInItem IsFormed i
   pub deep : depth_of_item i ≤ d
 
@@ -41,7 +42,7 @@ pub all_behind : {A : Type 0} (P : A → Type 0) (xs : List A) (y : A) → AllBy
 all_behind P [] y h p = (p, tt)
 all_behind P (x ∷ xs) y h p = (h.0, all_behind P xs y h.1 p)
 
-pub items_placed : (d : ℕ) (l : List BlockItem) → AllByRecursion (IsItem d) l → ItemsPlaced AreReadAsserts (block_items l)
+pub items_placed : (d : ℕ) (l : List BlockItem) → AllByRecursion (IsItem d) l → ItemsPlaced AreReadAsserts AreReadLoopClauses (block_items l)
 items_placed d [] h = tt
 items_placed d (i ∷ l) h = (h.0.is, items_placed d l h.1)
 
@@ -78,12 +79,12 @@ declare_nothing (i ∷ l) h = (h.0, declare_nothing l h.1)
 
 -- a case in which statements stand at most d deep
 record IsCase (d : ℕ) (c : ReadCase) : Type 0 where
-  is : ItemsPlaced AreReadAsserts (block_items c.items)
+  is : ItemsPlaced AreReadAsserts AreReadLoopClauses (block_items c.items)
   none : DeclareNothing (block_items c.items)
   short : EachInItems IsFormed (block_items c.items)
   deep : depth_of_items (block_items c.items) ≤ d
 
-cases_placed : (d : ℕ) (l : List ReadCase) → AllByRecursion (IsCase d) l → CasesPlaced AreReadAsserts (cases_of l)
+cases_placed : (d : ℕ) (l : List ReadCase) → AllByRecursion (IsCase d) l → CasesPlaced AreReadAsserts AreReadLoopClauses (cases_of l)
 cases_placed d [] h = tt
 cases_placed d (c ∷ l) h = (h.0.none, h.0.is, cases_placed d l h.1)
 
@@ -108,7 +109,7 @@ cases_behind o (b ∷ l) c = let e = cases_behind o l c in omega (arith, e)
 module _ (size : ℕ) (old : Vocabulary) where
   -- a statement d deep at most, after the offset l
   pub record IsWithin (d l n : ℕ) (x : Statement × AnnotationState) : Type 0 where
-    pub is : StatementPlaced AreReadAsserts x.0
+    pub is : StatementPlaced AreReadAsserts AreReadLoopClauses x.0
     pub short : EachIn IsFormed x.0
     pub deep : depth x.0 ≤ d
     pub declares : Declares size old l (declared_within x.0) n
@@ -232,19 +233,25 @@ module _ (size : ℕ) (old : Vocabulary) where
 
     -- ---- statements in statements
 
+    -- what stands inside a statement behind an annotation, which stands after the offset l
+    abbrev pub AnnotatedFrom : ℕ → Annotated → Type 0
+    AnnotatedFrom d A = (x : ReadAnnotation × ℕ) (l m : ℕ) (c : AnnotationState) → l ≤ m → IsReadAnnotation x.0 → AnnotationIn size ws l m x → From size m (A x c) (IsWithin d l)
+
     -- what stands behind an annotation declares nothing
-    module _ (d : ℕ) {B : Numbered} (inside : (l : ℕ) (c : AnnotationState) → From size l (B c) (IsWithin d l)) where
+    module _ (d : ℕ) {B : Annotated} (inside : AnnotatedFrom d B) where
       behind_from_annotation : (l m : ℕ) (c : AnnotationState) (x : ReadAnnotation × ℕ) → l ≤ m → IsReadAnnotation x.0 → AnnotationIn size ws l m x → From size m (behind_annotation ws B c x) (λ n y. IsItemWithin d l n y × IsNoDeclaration y.0)
       unfolding behind_annotation run_item
-      behind_from_annotation l m c ((a, None), k) le h g = from_gives _ (record { item = record { is = h.asserts; short = tt; deep = omega arith }; declares = declares_none size old l m le; annots = within_as g (λ o. omega arith) }, tt)
-      behind_from_annotation l m c ((a, Some o), k) le h g = from_then (inside m (after_misplaced c ((a, Some o), k))) (λ n x p.
-          let q = lower d l m n x le p in from_gives _ (record { item = record { is = q.is; short = q.short; deep = q.deep }; declares = q.declares; annots = q.annots }, tt))
+      behind_from_annotation l m c (Assertions a, k) le h g = from_gives _ (record { item = record { is = h; short = tt; deep = omega arith }; declares = declares_none size old l m le; annots = g }, tt)
+      behind_from_annotation l m c (Contracted o, k) le h g =
+          from_then (inside (Contracted o, k) l m c le h g) (λ n x p. from_gives _ (record { item = record { is = p.is; short = p.short; deep = p.deep }; declares = p.declares; annots = p.annots }, tt))
+      behind_from_annotation l m c (Looped o, k) le h g =
+          from_then (inside (Looped o, k) l m c le h g) (λ n x p. from_gives _ (record { item = record { is = p.is; short = p.short; deep = p.deep }; declares = p.declares; annots = p.annots }, tt))
 
       annotated_from : (l : ℕ) (c : AnnotationState) → From size l (annotated_item ws B c) (λ n x. IsItemWithin d l n x × IsNoDeclaration x.0)
       unfolding annotated_item
       annotated_from l c = from_then (from_both (from_each (annotations_each size ws c.number)) (annotations_from size ws c.number l)) (λ n x p. behind_from_annotation l n c x (p.0).1 (p.0).2 p.1)
 
-    module _ (d : ℕ) {T B : Numbered} (each : (l : ℕ) (c : AnnotationState) → From size l (T c) (IsWithin d l)) (inside : (l : ℕ) (c : AnnotationState) → From size l (B c) (IsWithin d l)) where
+    module _ (d : ℕ) {T : Numbered} {B : Annotated} (each : (l : ℕ) (c : AnnotationState) → From size l (T c) (IsWithin d l)) (inside : AnnotatedFrom d B) where
       item_from : (l : ℕ) (c : AnnotationState) → From size l (item ws T B c) (IsItemWithin d l)
       unfolding item run_item
       item_from l c =
@@ -363,11 +370,37 @@ module _ (size : ℕ) (old : Vocabulary) where
           from_then (from_any (reserved ws keyword.If)) (λ m at le. from_then (condition_from m) (λ i e p. from_then (each i c) (λ n x q.
           else_part_from at e l n x p.is (lower d l i n x (omega (arith, le, p.on)) q))))
 
-      while_from : (l : ℕ) (c : AnnotationState) → From size l (while_loop ws S c) (IsWithin (suc d) l)
-      unfolding while_loop
-      while_from l c =
-          from_then (from_any (reserved ws keyword.While)) (λ m at le. from_then (condition_from m) (λ i e p. from_then (each i c) (λ n x q.
-          from_gives _ (let r = lower d l i n x (omega (arith, le, p.on)) q in record { is = (refl, q.is); short = (p.is, q.short); deep = omega (arith, q.deep); declares = r.declares; annots = within_as r.annots (λ o. omega arith) }))))
+      -- a loop behind its annotations, which stand after the offset l
+      module _ (annots : List Annotation) (h : AreReadLoopClauses annots) where
+        while_from : (l m : ℕ) (c : AnnotationState) → l ≤ m → Within l m (λ o. annotations_at o annots) → From size m (while_loop ws S annots c) (IsWithin (suc d) l)
+        unfolding while_loop
+        while_from l m c le g =
+            from_then (from_any (reserved ws keyword.While)) (λ i at lf. from_then (condition_from i) (λ j e p. from_then (each j c) (λ n x q. from_gives _ (record {
+              is = (h, q.is);
+              short = (p.is, q.short);
+              deep = omega (arith, q.deep);
+              declares = (lower d l j n x (omega (arith, le, lf, p.on)) q).declares;
+              annots = within_two l m n (λ o. annotations_at o annots) (λ o. statement_at o x.0) g (lower d m j n x (omega (arith, lf, p.on)) q).annots;
+            }))))
+
+        for_from : (l m : ℕ) (c : AnnotationState) → l ≤ m → Within l m (λ o. annotations_at o annots) → From size m (for_loop ws S annots c) (IsWithin (suc d) l)
+        unfolding for_loop
+        for_from l m c le g =
+            from_then (from_any (reserved ws keyword.For)) (λ y at lf. from_then (from_any (mark ws left_paren)) (λ i _ lg. from_then (for_first_from i c) (λ j f r. from_then (maybe_from j) (λ k e p.
+            from_then (behind_from k) (λ o b s. from_then (each o f.1) (λ n x q. from_gives _ (record {
+              is = (h, r.is, q.is);
+              short = (r.short, p.short, s.short, q.short);
+              deep = omega (arith, q.deep);
+              declares = declares_joined size old l j n (declared_in_first f.0) (declared_within x.0)
+                  (declares_lower size old l i j (declared_in_first f.0) (omega (arith, le, lf, lg)) r.declares)
+                  (lower d j o n x (omega (arith, p.on, s.on)) q).declares;
+              annots = within_two l m n (λ z. annotations_at z annots) (λ z. first_at z f.0 + statement_at z x.0) g
+                  (within_two m j n (λ z. first_at z f.0) (λ z. statement_at z x.0) (within_wider m j (omega (arith, lf, lg)) (omega arith) r.annots) (lower d j o n x (omega (arith, p.on, s.on)) q).annots);
+            })))))))
+
+        loop_from : (l m : ℕ) (c : AnnotationState) → l ≤ m → Within l m (λ o. annotations_at o annots) → From size m (loop_of ws S annots c) (IsWithin (suc d) l)
+        unfolding loop_of
+        loop_from l m c le g = from_choice (kind ws) (keyword_kind keyword.While ∷ []) (while_from l m c le g) (for_from l m c le g)
 
       do_from : (l : ℕ) (c : AnnotationState) → From size l (do_loop ws S c) (IsWithin (suc d) l)
       unfolding do_loop
@@ -381,20 +414,6 @@ module _ (size : ℕ) (old : Vocabulary) where
             annots = within_wider l n (omega arith) (omega (arith, lf, p.on, lg)) (lower d l m i x le q).annots;
           })))))
 
-      for_from : (l : ℕ) (c : AnnotationState) → From size l (for_loop ws S c) (IsWithin (suc d) l)
-      unfolding for_loop
-      for_from l c =
-          from_then (from_any (reserved ws keyword.For)) (λ m at le. from_then (from_any (mark ws left_paren)) (λ i _ lf. from_then (for_first_from i c) (λ j f h. from_then (maybe_from j) (λ k e p.
-          from_then (behind_from k) (λ o b r. from_then (each o f.1) (λ n x q. from_gives _ (record {
-            is = (refl, h.is, q.is);
-            short = (h.short, p.short, r.short, q.short);
-            deep = omega (arith, q.deep);
-            declares = declares_joined size old l j n (declared_in_first f.0) (declared_within x.0)
-                (declares_lower size old l i j (declared_in_first f.0) (omega (arith, le, lf)) h.declares)
-                (lower d j o n x (omega (arith, p.on, r.on)) q).declares;
-            annots = within_as (within_two l j n (λ z. first_at z f.0) (λ z. statement_at z x.0) (within_wider l j (omega (arith, le, lf)) (omega arith) h.annots) (lower d j o n x (omega (arith, p.on, r.on)) q).annots) (λ z. omega arith);
-          })))))))
-
       labelled_from : (l m : ℕ) (x : ℕ × Place) (c : AnnotationState) → l ≤ m → From size m (labelled_statement ws S x c) (IsWithin (suc d) l)
       unfolding labelled_statement
       labelled_from l m x c le = from_then (from_any (mark ws colon)) (λ i _ lf. from_then (each i c) (λ n y p.
@@ -404,56 +423,79 @@ module _ (size : ℕ) (old : Vocabulary) where
       unfolding named_statement
       named_from l c = from_then (from_any (name ws)) (λ m x le. from_choice (kind ws) (mark_kind colon ∷ []) (labelled_from l m x c le) (effect_behind_from d l m x c le))
 
-    module _ (d : ℕ) {T B S : Numbered} (t : (l : ℕ) (c : AnnotationState) → From size l (T c) (IsWithin d l))
-        (b : (l : ℕ) (c : AnnotationState) → From size l (B c) (IsWithin d l)) (s : (l : ℕ) (c : AnnotationState) → From size l (S c) (IsWithin d l)) where
-      statement_of_from : (l : ℕ) (c : AnnotationState) → From size l (statement_of ws T B S c) (IsWithin (suc d) l)
-      unfolding statement_of
-      statement_of_from l c =
+    module _ (d : ℕ) {T S : Numbered} {B : Annotated} (t : (l : ℕ) (c : AnnotationState) → From size l (T c) (IsWithin d l)) (b : AnnotatedFrom d B) (s : (l : ℕ) (c : AnnotationState) → From size l (S c) (IsWithin d l)) where
+      unlooped_from : (l : ℕ) (c : AnnotationState) → From size l (unlooped_of ws T B S c) (IsWithin (suc d) l)
+      unfolding unlooped_of
+      unlooped_from l c =
           from_choice (kind ws) (mark_kind left_brace ∷ []) (block_from d t b l c)
           (from_choice (kind ws) (mark_kind semicolon ∷ []) (empty_from d l c)
           (from_choice (kind ws) (keyword_kind keyword.If ∷ []) (selection_from d s l c)
-          (from_choice (kind ws) (keyword_kind keyword.While ∷ []) (while_from d s l c)
           (from_choice (kind ws) (keyword_kind keyword.Do ∷ []) (do_from d s l c)
-          (from_choice (kind ws) (keyword_kind keyword.For ∷ []) (for_from d s l c)
           (from_choice (kind ws) (keyword_kind keyword.Switch ∷ []) (switch_from d t b l c)
           (from_choice (kind ws) (keyword_kind keyword.Return ∷ []) (return_from d l c)
           (from_choice (kind ws) (keyword_kind keyword.Break ∷ keyword_kind keyword.Continue ∷ []) (jump_from d l c)
-          (from_choice (kind ws) (name_kind ∷ []) (named_from d s l c) (effect_from d l c))))))))))
+          (from_choice (kind ws) (name_kind ∷ []) (named_from d s l c) (effect_from d l c))))))))
 
-    -- annotations before a statement are passed over
-    branch_of_from : (d : ℕ) {T S : Numbered} → ((l : ℕ) (c : AnnotationState) → From size l (T c) (IsWithin (suc d) l)) → ((l : ℕ) (c : AnnotationState) → From size l (S c) (IsWithin d l)) → (l : ℕ) (c : AnnotationState)
-        → From size l (branch_of ws T S c) (IsWithin (suc d) l)
-    unfolding branch_of
-    branch_of_from d t s l c =
-        from_choice (kind ws) (annot_open_kind ∷ [])
-        (from_then (from_any (misplaced ws c)) (λ m x le. from_more (λ n y p. (let q = lower d l m n y le p in record { is = q.is; short = q.short; deep = omega (arith, q.deep); declares = q.declares; annots = q.annots })) (s m x)))
-        (t l c)
+      statement_of_from : (l : ℕ) (c : AnnotationState) → From size l (statement_of ws T B S c) (IsWithin (suc d) l)
+      unfolding statement_of
+      statement_of_from l c = from_choice (kind ws) first_loop (loop_from d s [] tt l l c (omega arith) (within_none l l (omega arith))) (unlooped_from l c)
 
     deepen : (d l n : ℕ) (x : Statement × AnnotationState) → IsWithin d l n x → IsWithin (suc d) l n x
     deepen d l n x p = record { is = p.is; short = p.short; deep = omega (arith, p.deep); declares = p.declares; annots = p.annots }
+
+    -- with an annotation before it, which may belong to what stands behind it
+    branch_of_from : (d : ℕ) {T : Numbered} {A : Annotated} → ((l : ℕ) (c : AnnotationState) → From size l (T c) (IsWithin (suc d) l)) → AnnotatedFrom d A → (l : ℕ) (c : AnnotationState) → From size l (branch_of ws T A c) (IsWithin (suc d) l)
+    unfolding branch_of
+    branch_of_from d t a l c =
+        from_choice (kind ws) (annot_open_kind ∷ [])
+        (from_then (from_both (from_each (annotations_each size ws c.number)) (annotations_from size ws c.number l)) (λ m x p. from_more (λ n y q. deepen d l n y q) (a x l m c (p.0).1 (p.0).2 p.1)))
+        (t l c)
+
+    inside_of_from : (d : ℕ) {W : Looping} {T U : Numbered} {A : Annotated} → ((annots : List Annotation) → AreReadLoopClauses annots → (l m : ℕ) (c : AnnotationState) → l ≤ m → Within l m (λ o. annotations_at o annots)
+        → From size m (W annots c) (IsWithin (suc d) l)) → ((l : ℕ) (c : AnnotationState) → From size l (T c) (IsWithin (suc d) l)) → ((l : ℕ) (c : AnnotationState) → From size l (U c) (IsWithin (suc d) l)) → AnnotatedFrom d A
+        → AnnotatedFrom (suc d) (inside_of ws W T U A)
+    unfolding inside_of
+    inside_of_from d w t u a (Assertions asserts, k) l m c le h g = from_more (λ n y p. lower (suc d) l m n y le p) (branch_of_from d t a m _)
+    inside_of_from d w t u a (Contracted o, k) l m c le h g = from_more (λ n y p. lower (suc d) l m n y le p) (branch_of_from d t a m _)
+    inside_of_from d w t u a (Looped o, k) l m c le h g = from_choice (kind ws) first_loop (w o.clauses h l m _ le g) (from_more (λ n y p. lower (suc d) l m n y le p) (branch_of_from d u a m _))
 
     -- a statement of the last depth is read as if none could stand in it
     record AreFrom (d : ℕ) : Type 0 where
       statement : (l : ℕ) (c : AnnotationState) → From size l (statement_in ws d c) (IsWithin (suc d) l)
       branch : (l : ℕ) (c : AnnotationState) → From size l (branch_in ws d c) (IsWithin (suc d) l)
-      inside : (l : ℕ) (c : AnnotationState) → From size l (inside_in ws d c) (IsWithin (suc d) l)
+      behind : AnnotatedFrom (suc d) (behind_in ws d)
+      inside : AnnotatedFrom (suc d) (inside_in ws d)
+
+    nothing_behind : AnnotatedFrom 0 (λ x. nothing ws)
+    nothing_behind x l m c le h g = from_none
+
+    last_from : (l : ℕ) (c : AnnotationState) → From size l (statement_of ws (nothing ws) (λ x. nothing ws) (nothing ws) c) (IsWithin 1 l)
+    last_from = statement_of_from 0 (λ m k. from_none) nothing_behind (λ m k. from_none)
+
+    deep_from : (l : ℕ) (c : AnnotationState) → From size l (too_deep ws c) (IsWithin 1 l)
+    unfolding too_deep
+    deep_from l c = record { holds = (branch_of_from 0 last_from nothing_behind l c).holds }
 
     at_depth : (d : ℕ) → AreFrom d
     unfolding statement_in
-    at_depth zero =
-        let last = statement_of_from 0 (λ m k. from_none) (λ m k. from_none) (λ m k. from_none) in
-        record {
-          statement = λ l c. record { holds = (last l c).holds };
-          branch = λ l c. record { holds = (branch_of_from 0 last (λ m k. from_none) l c).holds };
-          inside = λ l c. record { holds = (branch_of_from 0 last (λ m k. from_none) l c).holds };
-        }
+    at_depth zero = record {
+      statement = λ l c. record { holds = (last_from l c).holds };
+      branch = deep_from;
+      behind = λ x l m c le h g. from_more (λ n y p. lower 1 l m n y le p) (deep_from m _);
+      inside = λ x l m c le h g. from_more (λ n y p. lower 1 l m n y le p) (deep_from m _);
+    }
     at_depth (suc d) =
         let h = at_depth d in
         let each = statement_of_from (suc d) h.statement h.inside h.branch in
-        record { statement = each; branch = branch_of_from (suc d) each h.branch; inside = λ l c. from_more (λ n x p. deepen (suc d) l n x p) (h.branch l c) }
+        record {
+          statement = each;
+          branch = branch_of_from (suc d) each h.behind;
+          behind = inside_of_from (suc d) (λ annots k. loop_from (suc d) h.branch annots k) each (unlooped_from (suc d) h.statement h.inside h.branch) h.behind;
+          inside = λ x l m c le k g. from_more (λ n y p. deepen (suc d) l n y p) (h.behind x l m c le k g);
+        }
 
     pub statement_in_from : (d l : ℕ) (c : AnnotationState) → From size l (statement_in ws d c) (IsWithin (suc d) l)
     statement_in_from d l c = (at_depth d).statement l c
 
-    pub inside_in_from : (d l : ℕ) (c : AnnotationState) → From size l (inside_in ws d c) (IsWithin (suc d) l)
-    inside_in_from d l c = (at_depth d).inside l c
+    pub inside_in_from : (d : ℕ) → AnnotatedFrom (suc d) (inside_in ws d)
+    inside_in_from d = (at_depth d).inside

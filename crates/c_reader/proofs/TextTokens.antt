@@ -3,6 +3,7 @@
 use Rattle.std.proofs.Common.{◌≡◌, ℕ, zero, suc, ◌<◌, ◌≤◌, ◌-◌, pos, negsuc, ◌≤ℤ◌, nat_lt, Bool, true, false, cond, if◌then◌else◌, ◌&&◌, ◌||◌, nat_eq, ltb, List, [], ◌∷◌, ◌++◌, length, length-append, drop, map}
 use Rattle.std.proofs.Common.{Some, Result, Ok, Err, ◌⊎◌, inl, inr, bytes_eq, refl, sym, ap, subst, ◌∙◌, arith}
 use Rattle.std.proofs.lemmas.Bool.{eqb-true, ltb-true, ltb-false}
+use Rattle.std.proofs.lemmas.Bool.Decides.{nat_tests}
 use Rattle.std.proofs.lemmas.Int.{ints}
 use Rattle.std.specs.Prelude.{slice_get}
 use Rattle.std.specs.List.{list_any, list_all, AllByRecursion}
@@ -33,10 +34,10 @@ use Rattle.c_model.proofs.Spelling.{chosen}
 use Rattle.c_model.proofs.NameLaws.{number_points}
 use Rattle.c_model.proofs.CNameLaws.{names_in_order}
 use Rattle.c_model.proofs.CPieceLaws.{pieces_joined, pieces_spelled}
-use Rattle.c_model.proofs.CListLaws.{AllBelow, tokens_ascend, tokens_below}
+use Rattle.c_model.proofs.CListLaws.{AllBelow, WordBelow, WordsBelow, tokens_ascend, tokens_below, words_below}
 use Rattle.c_model.specs.ReadTree.{AreBytes}
 use Rattle.c_model.specs.LetterValues.{IsCharacter}
-use Rattle.c_reader.proofs.TokenForms.{IsLexed, IsLexedKind}
+use Rattle.c_reader.proofs.TokenForms.{IsLexed, IsLexedKind, IsWordApart}
 use Rattle.c_reader.proofs.PlacedReadings.{Reach}
 use Rattle.c_reader.proofs.DeclarationForms.{IsNewName}
 use Rattle.c_reader.proofs.StringBytes.{bytes_joined, bytes_before, bytes_behind, bytes_dropped, letter_is_byte, string_is_bytes}
@@ -134,18 +135,21 @@ kind_more n m token.AnnotOpen le h = tt
 kind_more n m token.AnnotClose le h = tt
 kind_more n m (token.Head k i) le h = tt
 
+abbrev HasKind : ℕ → PlainToken → Type 0
+HasKind n t = IsLexedKind n t.kind
+
 abbrev AreLexed : ℕ → List PlainToken → Type 0
-AreLexed n ts = AllByRecursion (IsLexed n) ts
+AreLexed n ts = AllByRecursion (HasKind n) ts
 
 all_more : (n m : ℕ) (ts : List PlainToken) → n ≤ m → AreLexed n ts → AreLexed m ts
 all_more n m [] le h = tt
 all_more n m (t ∷ ts) le h = (kind_more n m t.kind le h.0, all_more n m ts le h.1)
 
-behind : (n : ℕ) (ts : List PlainToken) (t : PlainToken) → AreLexed n ts → IsLexed n t → AreLexed n (ts ++ t ∷ [])
+behind : (n : ℕ) (ts : List PlainToken) (t : PlainToken) → AreLexed n ts → HasKind n t → AreLexed n (ts ++ t ∷ [])
 behind n [] t h p = (p, tt)
 behind n (u ∷ ts) t h p = (h.0, behind n ts t h.1 p)
 
-joined_lexed : (n : ℕ) (t : PlainToken) (at : Place) (bs : List ℕ) → IsLexed n t → AreBytes bs → AreLexed n (joined_string t at bs)
+joined_lexed : (n : ℕ) (t : PlainToken) (at : Place) (bs : List ℕ) → HasKind n t → AreBytes bs → AreLexed n (joined_string t at bs)
 joined_lexed n t at bs h are = by t.kind t.place h
   where
     by : (k : PlainTokenKind) (p : Place) → IsLexedKind n k → AreLexed n (joined_string (record { place = p; kind = k }) at bs)
@@ -266,17 +270,36 @@ end_below : (l n : ℕ) (ts : List PlainToken) → l ≤ n → AllBelow n ts →
 end_below l n [] le h = le
 end_below l n (t ∷ ts) le h = end_below (suc t.place.offset) n ts (omega (arith, h.0)) h.1
 
+-- no word has the offset that a text is too short for
+word_apart : (n : ℕ) (k : PlainTokenKind) (at : Place) → n < 4294967295 → WordBelow n k at.offset → IsWordApart k at
+word_apart n (token.Word w) at few h = tested (nat_eq at.offset 4294967294) refl
+  where
+    tested : (b : Bool) → nat_eq at.offset 4294967294 ≡ b → nat_eq at.offset 4294967294 ≡ false
+    tested true e = let q : at.offset ≡ 4294967294 = grind (arith, nat_tests, e) in absurd (omega (arith, q, few, h))
+    tested false e = e
+word_apart n (token.Number z c) at few h = tt
+word_apart n (token.Letter z) at few h = tt
+word_apart n (token.Chars bytes) at few h = tt
+word_apart n (token.Mark m) at few h = tt
+word_apart n token.AnnotOpen at few h = tt
+word_apart n token.AnnotClose at few h = tt
+word_apart n (token.Head k m) at few h = tt
+
+all_lexed : (size n : ℕ) (ts : List PlainToken) → n < 4294967295 → AreLexed size ts → WordsBelow n ts → AllByRecursion (IsLexed size) ts
+all_lexed size n [] few h w = tt
+all_lexed size n (t ∷ ts) few h w = ((h.0, word_apart n t.kind t.place few w.0), all_lexed size n ts few h.1 w.1)
+
 pub record Lexed (length_of_text : ℕ) (tokens : PlainTokens) : Type 0 where
   pub names : AreWords tokens.names
-  pub list : AreLexed (length tokens.names) tokens.list
+  pub list : AllByRecursion (IsLexed (length tokens.names)) tokens.list
   pub end : ℕ
   pub reach : Reach 0 tokens.list end
   pub below : end ≤ suc length_of_text
 
-pub lexed : (text : List ℕ) (tokens : PlainTokens) → AreBytes text → tokens_of text ≡ Ok tokens → Lexed (length text) tokens
-lexed text tokens are e = record {
+pub lexed : (text : List ℕ) (tokens : PlainTokens) → AreBytes text → length text < 4294967295 → tokens_of text ≡ Ok tokens → Lexed (length text) tokens
+lexed text tokens are few e = record {
   names = names_are_words text tokens e;
-  list = tokens_lexed text tokens are e;
+  list = all_lexed (length tokens.names) (length text) tokens.list few (tokens_lexed text tokens are e) (words_below text tokens e);
   end = last_end 0 tokens.list;
   reach = reached tokens.list (tokens_ascend text tokens e);
   below = end_below 0 (suc (length text)) tokens.list (omega arith) (tokens_below text tokens e);
@@ -295,6 +318,7 @@ no_logic_name logic.Result h = cc
 no_logic_name logic.Old h = cc
 no_logic_name logic.At h = cc
 no_logic_name logic.Kept h = cc
+no_logic_name (logic.Quantifier q) h = cc
 
 backslash_word : (w : List ℕ) → word_kind (word_of (92 ∷ w)) ≡ name_kind → ⊥
 unfolding word_of

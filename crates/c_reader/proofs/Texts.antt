@@ -3,7 +3,6 @@ use Rattle.std.proofs.Common.{◌≡◌, ℕ, List, Option, Some, None, Result, 
 use Rattle.grammar.specs.Syntax as grammar
 use Rattle.grammar.specs.Exact.{Accepts}
 use Rattle.grammar.proofs.OneAnswer.{one_fault}
-use Rattle.c_syntax.specs.RefusalCodes.{misplaced_code}
 use Rattle.c_syntax.specs.declared.place.Place.{Place}
 use Rattle.c_syntax.specs.Tokens.{PlainTokens}
 use Rattle.c_syntax.specs.Programs.{TranslationUnit, PlainRefusal}
@@ -13,7 +12,7 @@ use Rattle.c_model.specs.UnitTyping.{typed_unit, room_fault, main_fault}
 use Rattle.c_model.specs.AnnotationTyping.{noted_unit}
 use Rattle.c_model.specs.AnnotationRanges.{ranged_unit}
 use Rattle.c_model.specs.ProgramGrammar.{texts_of, unit}
-use Rattle.c_model.specs.Phases.{vocabulary, IsRead, IsMisplaced, IsSyntaxFault, checked_refusal, main_refusal, AcceptedText, RefusedText, ByTokens, ByGrammar, ByPlaces, ByNamesAndTypes, ForRoom, ForMain, ByAnnotations, ByRanges}
+use Rattle.c_model.specs.Phases.{vocabulary, place_fault, IsRead, IsMisplaced, IsSyntaxFault, checked_refusal, main_refusal, AcceptedText, RefusedText, ByTokens, ByGrammar, ByPlaces, ByNamesAndTypes, ForRoom, ForMain, ByAnnotations, ByRanges}
 use Rattle.c_model.specs.TokenWords.{syntax_refusal, refused_at_place}
 use Rattle.c_parser.proofs.Answers.{fronts, limits}
 use Rattle.c_parser.proofs.ExactPrograms.{one_unit}
@@ -68,14 +67,14 @@ record IsUnread (text : List ℕ) (a : Answer) : Type 0 where
   found : IsSyntaxFault tokens fault
   is : a ≡ Err (syntax_refusal tokens fault)
 
--- they are one, in which an annotation is misplaced
+-- they are one, in which an annotation is misplaced, or a quantifier has no guard
 record IsUnplaced (text : List ℕ) (a : Answer) : Type 0 where
   tokens : PlainTokens
   has : tokens_of text ≡ Ok tokens
   tree : TranslationUnit
-  place : Place
-  found : IsMisplaced tokens tree place
-  is : a ≡ Err (refused_at_place tokens misplaced_code place)
+  fault : Fault
+  found : IsMisplaced tokens tree fault
+  is : a ≡ Err (refused_at_place tokens fault.code fault.place)
 
 -- they are one
 record HasTree (text : List ℕ) (a : Answer) : Type 0 where
@@ -113,38 +112,46 @@ both_unread text a b x y =
     x.is ∙ (λ i. Err (syntax_refusal (sym same i) (fault i))) ∙ sym y.is
 
 unread_apart : (text : List ℕ) (a b : Answer) → IsUnread text a → HasTree text b → ⊥
-unread_apart text a b x y = x.found.unread (y.tree, None) (subst (λ (ts : PlainTokens). IsRead ts y.tree) (one_tokens text y.tokens x.tokens y.has x.has) y.read)
+unread_apart text a b x y = x.found.unread (y.tree, None) (subst (λ (ts : PlainTokens). IsRead ts y.tree) (one_tokens text y.tokens x.tokens y.has x.has) y.read).reading
 
 unread_placed : (text : List ℕ) (a b : Answer) → IsUnread text a → IsUnplaced text b → ⊥
-unread_placed text a b x y = x.found.unread (y.tree, Some y.place) (subst (λ (ts : PlainTokens). IsMisplaced ts y.tree y.place) (one_tokens text y.tokens x.tokens y.has x.has) y.found)
+unread_placed text a b x y =
+    let moved = subst (λ (ts : PlainTokens). IsMisplaced ts y.tree y.fault) (one_tokens text y.tokens x.tokens y.has x.has) y.found in
+    x.found.unread (y.tree, moved.at) moved.reading
 
 -- tokens are read in one way, with one place of the first misplaced annotation
 one_reading : (ts : PlainTokens) (p q : TranslationUnit) (m n : Option Place) → Accepts (unit (vocabulary ts) ts.names (texts_of ts.list)) ts.list (p, m) → Accepts (unit (vocabulary ts) ts.names (texts_of ts.list)) ts.list (q, n)
     → ◌≡◌ {A = TranslationUnit × Option Place} (p, m) (q, n)
 one_reading ts p q m n x y = one_unit (vocabulary ts) ts.names (texts_of ts.list) ts.list (p, m) (q, n) x y
 
-some_place : (at to : Place) → Some at ≡ Some to → at ≡ to
-some_place at to e = cc
+some_fault : (f g : Fault) → Some f ≡ Some g → f ≡ g
+some_fault f g e = cc
 
-place_or_none : (at : Place) → Some at ≡ None → ⊥
-place_or_none at e = cc
+fault_or_none : (f : Fault) → Some f ≡ None → ⊥
+fault_or_none f e = cc
 
 both_unplaced : (text : List ℕ) (a b : Answer) → IsUnplaced text a → IsUnplaced text b → a ≡ b
 both_unplaced text a b x y =
     let same = one_tokens text y.tokens x.tokens y.has x.has in
-    let moved = subst (λ (ts : PlainTokens). IsMisplaced ts y.tree y.place) same y.found in
-    let place = some_place x.place y.place (ap (λ (z : TranslationUnit × Option Place). z.1) (one_reading x.tokens x.tree y.tree (Some x.place) (Some y.place) x.found moved)) in
-    x.is ∙ (λ i. Err (refused_at_place (sym same i) misplaced_code (place i))) ∙ sym y.is
+    let moved = subst (λ (ts : PlainTokens). IsMisplaced ts y.tree y.fault) same y.found in
+    let one = ap place_fault (one_reading x.tokens x.tree y.tree x.found.at moved.at x.found.reading moved.reading) in
+    let fault = some_fault x.fault y.fault (sym x.found.is ∙ one ∙ moved.is) in
+    x.is ∙ (λ i. Err (refused_at_place (sym same i) (fault i).code (fault i).place)) ∙ sym y.is
+
+-- what is read with every annotation in its place and every quantifier guarded has no such fault
+none_found : (ts : PlainTokens) (p : TranslationUnit) → IsRead ts p → place_fault (p, None) ≡ None
+none_found ts p r = rw r.guarded refl
 
 placed_apart : (text : List ℕ) (a b : Answer) → IsUnplaced text a → HasTree text b → ⊥
 placed_apart text a b x y =
     let moved = subst (λ (ts : PlainTokens). IsRead ts y.tree) (one_tokens text y.tokens x.tokens y.has x.has) y.read in
-    place_or_none x.place (ap (λ (z : TranslationUnit × Option Place). z.1) (one_reading x.tokens x.tree y.tree (Some x.place) None x.found moved))
+    let one = ap place_fault (one_reading x.tokens x.tree y.tree x.found.at None x.found.reading moved.reading) in
+    fault_or_none x.fault (sym x.found.is ∙ one ∙ none_found x.tokens y.tree moved)
 
 both_trees : (text : List ℕ) (a b : Answer) → HasTree text a → HasTree text b → a ≡ b
 both_trees text a b x y =
     let same = one_tokens text y.tokens x.tokens y.has x.has in
-    let tree = ap (λ (z : TranslationUnit × Option Place). z.0) (one_reading x.tokens x.tree y.tree None None x.read (subst (λ (ts : PlainTokens). IsRead ts y.tree) same y.read)) in
+    let tree = ap (λ (z : TranslationUnit × Option Place). z.0) (one_reading x.tokens x.tree y.tree None None x.read.reading (subst (λ (ts : PlainTokens). IsRead ts y.tree) same y.read).reading) in
     sym x.is ∙ (λ i. of_tree (sym same i) (tree i)) ∙ y.is
 
 one_answer : (text : List ℕ) (a b : Answer) → Answers text a → Answers text b → a ≡ b
@@ -180,7 +187,7 @@ accepted text p a = Tree (record {
 refused : (text : List ℕ) (r : PlainRefusal) → RefusedText text r → Answers text (Err r)
 refused text r (ByTokens e) = NoTokens r e refl
 refused text r (ByGrammar ts f e g is) = NoTree (record { tokens = ts; has = e; fault = f; found = g; is = ap Err is })
-refused text r (ByPlaces ts p at e g is) = Unplaced (record { tokens = ts; has = e; tree = p; place = at; found = g; is = ap Err is })
+refused text r (ByPlaces ts p f e g is) = Unplaced (record { tokens = ts; has = e; tree = p; fault = f; found = g; is = ap Err is })
 refused text r (ByNamesAndTypes ts p f e g k is) = Tree (record { tokens = ts; has = e; tree = p; read = g; is = settled_fault ts (typed_unit p) f k ∙ ap Err (sym is) })
 refused text r (ForRoom ts p t f h k is) =
     Tree (record { tokens = ts; has = h.tokens; tree = p; read = h.read; is = ap (settled ts) h.is ∙ ap (housed ts t) k ∙ ap Err (sym is) })

@@ -6,6 +6,7 @@ use Rattle.c_syntax.specs.declared.place.Place.{Place}
 use Rattle.c_syntax.specs.Tokens as token
 use Rattle.c_syntax.specs.Tokens.{PlainTokenKind, PlainToken}
 use Rattle.c_model.specs.ExpressionGrammar.{letter_of}
+use Rattle.c_model.specs.Formed.{IsApart}
 use Rattle.c_model.specs.LetterValues.{IsCharacter}
 use Rattle.c_model.specs.Terminals.{placed}
 use Rattle.c_model.specs.ReadTree.{AreBytes}
@@ -19,8 +20,13 @@ IsLexedKind size (token.Letter z) = IsCharacter z
 IsLexedKind size (token.Chars bytes) = AreBytes bytes
 IsLexedKind size _ = Unit {0}
 
+-- a word's offset is no number of another thing
+abbrev pub IsWordApart : PlainTokenKind → Place → Type 0
+IsWordApart (token.Word n) at = IsApart at
+IsWordApart _ at = Unit {0}
+
 abbrev pub IsLexed : ℕ → PlainToken → Type 0
-IsLexed size t = IsLexedKind size t.kind
+IsLexed size t = IsLexedKind size t.kind × IsWordApart t.kind t.place
 
 -- each value that G reads of such tokens is P at the number of its tokens
 abbrev pub Each : ℕ → {A : Type 0} → Syntax PlainToken A → (ℕ → A → Type 0) → Type 0
@@ -61,4 +67,4 @@ letter_is size token.AnnotClose y h e = absurd cc
 letter_is size (token.Head k n) y h e = absurd cc
 
 pub each_letter : {size : ℕ} → Each size (one (placed letter_of)) (λ k x. (k ≡ 1) × IsCharacter x.0)
-each_letter {size} = each_one _ (λ t x h e. (refl, letter_is size t.kind x.0 h (placed_is letter_of t x e)))
+each_letter {size} = each_one _ (λ t x h e. (refl, letter_is size t.kind x.0 h.0 (placed_is letter_of t x e)))

@@ -5,7 +5,6 @@ use Rattle.grammar.specs.Syntax as grammar
 use Rattle.c_syntax.specs.declared.place.Place.{Place}
 use Rattle.c_syntax.specs.declared.annotation.Kind.TheVariants as clause
 use Rattle.c_syntax.specs.declared.types.How.TheVariants as how
-use Rattle.c_syntax.specs.RefusalCodes.{misplaced_code}
 use Rattle.c_syntax.specs.Tokens.{PlainToken, PlainTokens}
 use Rattle.c_syntax.specs.Programs.{TranslationUnit, PlainRefusal}
 use Rattle.c_model.specs.MonitoredTokens.{marks}
@@ -28,18 +27,21 @@ use Rattle.c_model.specs.DeclarationGrammar.{more_storage, file_spec}
 use Rattle.c_model.specs.AnnotationGrammar.{whole, zone, named_form, literal_form, sized_form, null_form, result_form, old_form, labelled_form, told_form, asked_form, next_zone, some_zones, separated_form, atom, worded, indexed as formula_indexed}
 use Rattle.c_model.specs.AnnotationGrammar.{dotted as formula_dotted, pointed, postfix_once as formula_postfix_once, postfixes as formula_postfixes, worded_postfix, cast_behind, cast_to_type, cast_to_integer}
 use Rattle.c_model.specs.AnnotationGrammar.{closed_postfix, parenthesised, behind_parenthesis, prefixed as formula_prefixed, bare_prefix, prefix_of, prefix, joined_once as formula_joined_once, joined_more, joined}
-use Rattle.c_model.specs.AnnotationGrammar.{factor, added_rest, ranged, behind_first, added_parenthesis, added, sum_once, sum_more, zone_sum, linked, links_of, links, chain_behind, chain_of, implied}
+use Rattle.c_model.specs.AnnotationGrammar.{placed_name, next_name, some_names, binder_type, binders, quantified, added_rest, ranged, behind_first, added_parenthesis, added, sum_once, sum_more, zone_sum, linked, links_of, links}
+use Rattle.c_model.specs.AnnotationGrammar.{chain_behind, chain_of, implied}
 use Rattle.c_model.specs.AnnotationGrammar.{implication_behind, implication_of, chosen_behind, choice_behind, implication, form_of, forms}
-use Rattle.c_model.specs.ClauseGrammar.{form_clause, full_clause, next_clause, more_clauses, asserts, behavior, next_behavior, more_behaviors, behavior_name, next_name, some_names, behavior_names, cover_clause, full_cover, next_cover}
+use Rattle.c_model.specs.ClauseGrammar.{form_clause, full_clause, next_clause, more_clauses, asserts, assigns, full_assigns, looped, loop_assigns, loop_clause, full_loop_clause, next_loop_clause, more_loop_clauses, loop_clauses}
+use Rattle.c_model.specs.ClauseGrammar.{next_own, more_owns, placed_own, behavior, next_behavior, more_behaviors, behavior_names, cover_clause, full_cover, next_cover}
 use Rattle.c_model.specs.ClauseGrammar.{more_covers, behaviors_and_covers, own_first, behavior_first, cover_first, contract, clauses, annotations}
-use Rattle.c_model.specs.ProgramGrammar.{texts_of, misplaced, run_item, behind_annotation, annotated_item, condition, else_branch, else_part, selection, while_loop, do_loop, for_first, maybe_ended, for_behind, for_loop, jump, returned}
+use Rattle.c_model.specs.ProgramGrammar.{texts_of, run_item, behind_annotation, annotated_item, condition, else_branch, else_part, selection, while_loop, do_loop, for_first, maybe_ended, for_behind, for_loop, jump, returned}
 use Rattle.c_model.specs.ProgramGrammar.{return_statement, item, items_once, items, block, valued_case, default_case, case_label, case_item, case_items_once, case_items}
-use Rattle.c_model.specs.ProgramGrammar.{next_case, cases, switch_statement, empty_statement, effect_statement, effect_behind, labelled_statement, named_statement, statement_of, branch_of, statement_in, branch_in}
+use Rattle.c_model.specs.ProgramGrammar.{next_case, cases, switch_statement, empty_statement, effect_statement, effect_behind, labelled_statement, named_statement, statement_of, branch_of, loop_of, unlooped_of, inside_of, too_deep}
+use Rattle.c_model.specs.ProgramGrammar.{statement_in, branch_in, behind_in, inside_in}
 use Rattle.c_model.specs.ProgramGrammar.{function_rest, function, globals, behind_declarator, declared_at_file}
 use Rattle.c_model.specs.ProgramGrammar.{next_typedef, more_typedefs, typedefs, next_stray, strays, declared_external, external, more_external, unit}
 use Rattle.c_model.specs.State.{EndOfInput, Final, Exits, Broken, Undefined}
 use Rattle.c_model.specs.Meaning.{run}
-use Rattle.c_model.specs.Phases.{vocabulary}
+use Rattle.c_model.specs.Phases.{vocabulary, place_fault}
 use Rattle.c_model.specs.TokenWords.{syntax_refusal, refused_at_place}
 use Rattle.c_reader.proofs.Texts.{Answer, of_tree}
 
@@ -48,8 +50,7 @@ place line column offset = record { line = line; column = column; offset = offse
 
 -- the answer to tokens that are read to the end, or not
 abbrev read_as : PlainTokens → Result ((TranslationUnit × Option Place) × List PlainToken) grammar.ParseFault → Answer
-read_as ts (Ok ((p, None), [])) = of_tree ts p
-read_as ts (Ok ((p, Some at), [])) = Err (refused_at_place ts misplaced_code at)
+read_as ts (Ok (x, [])) = elim (place_fault x) [ None ↦ of_tree ts x.0 | Some f ↦ Err (refused_at_place ts f.code f.place) ]
 read_as ts (Ok (x, t ∷ rest)) = Err (syntax_refusal ts (grammar.At (length (t ∷ rest))))
 read_as ts (Err f) = Err (syntax_refusal ts f)
 
@@ -105,11 +106,14 @@ unfolding tokens_of build cut piece_at add marks digits_at suffix_of body_of lit
     struct_braces constant_value constant enum_braces braces_of braces_in storage_word more_storage file_spec whole zone named_form literal_form sized_form null_form result_form old_form labelled_form told_form asked_form
     next_zone some_zones separated_form atom
     worded formula_indexed formula_dotted pointed formula_postfix_once formula_postfixes worded_postfix cast_behind cast_to_type cast_to_integer closed_postfix parenthesised behind_parenthesis formula_prefixed bare_prefix
-    prefix_of prefix formula_joined_once joined_more joined factor added_rest ranged behind_first added_parenthesis added sum_once sum_more zone_sum linked links_of links chain_behind chain_of implied implication_behind
-    implication_of chosen_behind choice_behind implication form_of forms form_clause full_clause next_clause more_clauses asserts behavior next_behavior more_behaviors behavior_name next_name some_names behavior_names cover_clause
-    full_cover next_cover more_covers behaviors_and_covers own_first behavior_first cover_first contract clauses annotations misplaced run_item behind_annotation annotated_item
+    prefix_of prefix formula_joined_once joined_more joined placed_name next_name some_names binder_type binders quantified added_rest ranged behind_first added_parenthesis added sum_once sum_more zone_sum linked links_of links chain_behind chain_of
+    implied implication_behind
+    implication_of chosen_behind choice_behind implication form_of forms form_clause full_clause next_clause more_clauses asserts assigns full_assigns looped loop_assigns loop_clause full_loop_clause
+    next_loop_clause more_loop_clauses loop_clauses next_own more_owns placed_own behavior next_behavior more_behaviors behavior_names cover_clause
+    full_cover next_cover more_covers behaviors_and_covers own_first behavior_first cover_first contract clauses annotations run_item behind_annotation annotated_item
     condition else_branch else_part selection while_loop do_loop for_first maybe_ended for_behind for_loop jump returned return_statement item items_once items block valued_case
-    default_case case_label case_item case_items_once case_items next_case cases switch_statement empty_statement effect_statement effect_behind labelled_statement named_statement statement_of branch_of statement_in branch_in
+    default_case case_label case_item case_items_once case_items next_case cases switch_statement empty_statement effect_statement effect_behind labelled_statement named_statement statement_of branch_of loop_of
+    unlooped_of inside_of too_deep statement_in branch_in behind_in inside_in
     function_rest function globals behind_declarator
     declared_at_file next_typedef more_typedefs typedefs next_stray strays declared_external external more_external unit word_of library_constant is_library_name
 programs = refl
@@ -167,11 +171,14 @@ unfolding tokens_of build cut piece_at add marks digits_at suffix_of body_of lit
     struct_braces constant_value constant enum_braces braces_of braces_in storage_word more_storage file_spec whole zone named_form literal_form sized_form null_form result_form old_form labelled_form told_form asked_form
     next_zone some_zones separated_form atom
     worded formula_indexed formula_dotted pointed formula_postfix_once formula_postfixes worded_postfix cast_behind cast_to_type cast_to_integer closed_postfix parenthesised behind_parenthesis formula_prefixed bare_prefix
-    prefix_of prefix formula_joined_once joined_more joined factor added_rest ranged behind_first added_parenthesis added sum_once sum_more zone_sum linked links_of links chain_behind chain_of implied implication_behind
-    implication_of chosen_behind choice_behind implication form_of forms form_clause full_clause next_clause more_clauses asserts behavior next_behavior more_behaviors behavior_name next_name some_names behavior_names cover_clause
-    full_cover next_cover more_covers behaviors_and_covers own_first behavior_first cover_first contract clauses annotations misplaced run_item behind_annotation annotated_item
+    prefix_of prefix formula_joined_once joined_more joined placed_name next_name some_names binder_type binders quantified added_rest ranged behind_first added_parenthesis added sum_once sum_more zone_sum linked links_of links chain_behind chain_of
+    implied implication_behind
+    implication_of chosen_behind choice_behind implication form_of forms form_clause full_clause next_clause more_clauses asserts assigns full_assigns looped loop_assigns loop_clause full_loop_clause
+    next_loop_clause more_loop_clauses loop_clauses next_own more_owns placed_own behavior next_behavior more_behaviors behavior_names cover_clause
+    full_cover next_cover more_covers behaviors_and_covers own_first behavior_first cover_first contract clauses annotations run_item behind_annotation annotated_item
     condition else_branch else_part selection while_loop do_loop for_first maybe_ended for_behind for_loop jump returned return_statement item items_once items block valued_case
-    default_case case_label case_item case_items_once case_items next_case cases switch_statement empty_statement effect_statement effect_behind labelled_statement named_statement statement_of branch_of statement_in branch_in
+    default_case case_label case_item case_items_once case_items next_case cases switch_statement empty_statement effect_statement effect_behind labelled_statement named_statement statement_of branch_of loop_of
+    unlooped_of inside_of too_deep statement_in branch_in behind_in inside_in
     function_rest function globals behind_declarator
     declared_at_file next_typedef more_typedefs typedefs next_stray strays declared_external external more_external unit word_of library_constant is_library_name
 refusals = refl
@@ -211,11 +218,14 @@ unfolding tokens_of build cut piece_at add marks digits_at suffix_of body_of lit
     struct_braces constant_value constant enum_braces braces_of braces_in storage_word more_storage file_spec whole zone named_form literal_form sized_form null_form result_form old_form labelled_form told_form asked_form
     next_zone some_zones separated_form atom
     worded formula_indexed formula_dotted pointed formula_postfix_once formula_postfixes worded_postfix cast_behind cast_to_type cast_to_integer closed_postfix parenthesised behind_parenthesis formula_prefixed bare_prefix
-    prefix_of prefix formula_joined_once joined_more joined factor added_rest ranged behind_first added_parenthesis added sum_once sum_more zone_sum linked links_of links chain_behind chain_of implied implication_behind
-    implication_of chosen_behind choice_behind implication form_of forms form_clause full_clause next_clause more_clauses asserts behavior next_behavior more_behaviors behavior_name next_name some_names behavior_names cover_clause
-    full_cover next_cover more_covers behaviors_and_covers own_first behavior_first cover_first contract clauses annotations misplaced run_item behind_annotation annotated_item
+    prefix_of prefix formula_joined_once joined_more joined placed_name next_name some_names binder_type binders quantified added_rest ranged behind_first added_parenthesis added sum_once sum_more zone_sum linked links_of links chain_behind chain_of
+    implied implication_behind
+    implication_of chosen_behind choice_behind implication form_of forms form_clause full_clause next_clause more_clauses asserts assigns full_assigns looped loop_assigns loop_clause full_loop_clause
+    next_loop_clause more_loop_clauses loop_clauses next_own more_owns placed_own behavior next_behavior more_behaviors behavior_names cover_clause
+    full_cover next_cover more_covers behaviors_and_covers own_first behavior_first cover_first contract clauses annotations run_item behind_annotation annotated_item
     condition else_branch else_part selection while_loop do_loop for_first maybe_ended for_behind for_loop jump returned return_statement item items_once items block valued_case
-    default_case case_label case_item case_items_once case_items next_case cases switch_statement empty_statement effect_statement effect_behind labelled_statement named_statement statement_of branch_of statement_in branch_in
+    default_case case_label case_item case_items_once case_items next_case cases switch_statement empty_statement effect_statement effect_behind labelled_statement named_statement statement_of branch_of loop_of
+    unlooped_of inside_of too_deep statement_in branch_in behind_in inside_in
     function_rest function globals behind_declarator
     declared_at_file next_typedef more_typedefs typedefs next_stray strays declared_external external more_external unit word_of library_constant is_library_name
 effects = refl
@@ -249,11 +259,14 @@ unfolding tokens_of build cut piece_at add marks digits_at suffix_of body_of lit
     struct_braces constant_value constant enum_braces braces_of braces_in storage_word more_storage file_spec whole zone named_form literal_form sized_form null_form result_form old_form labelled_form told_form asked_form
     next_zone some_zones separated_form atom
     worded formula_indexed formula_dotted pointed formula_postfix_once formula_postfixes worded_postfix cast_behind cast_to_type cast_to_integer closed_postfix parenthesised behind_parenthesis formula_prefixed bare_prefix
-    prefix_of prefix formula_joined_once joined_more joined factor added_rest ranged behind_first added_parenthesis added sum_once sum_more zone_sum linked links_of links chain_behind chain_of implied implication_behind
-    implication_of chosen_behind choice_behind implication form_of forms form_clause full_clause next_clause more_clauses asserts behavior next_behavior more_behaviors behavior_name next_name some_names behavior_names cover_clause
-    full_cover next_cover more_covers behaviors_and_covers own_first behavior_first cover_first contract clauses annotations misplaced run_item behind_annotation annotated_item
+    prefix_of prefix formula_joined_once joined_more joined placed_name next_name some_names binder_type binders quantified added_rest ranged behind_first added_parenthesis added sum_once sum_more zone_sum linked links_of links chain_behind chain_of
+    implied implication_behind
+    implication_of chosen_behind choice_behind implication form_of forms form_clause full_clause next_clause more_clauses asserts assigns full_assigns looped loop_assigns loop_clause full_loop_clause
+    next_loop_clause more_loop_clauses loop_clauses next_own more_owns placed_own behavior next_behavior more_behaviors behavior_names cover_clause
+    full_cover next_cover more_covers behaviors_and_covers own_first behavior_first cover_first contract clauses annotations run_item behind_annotation annotated_item
     condition else_branch else_part selection while_loop do_loop for_first maybe_ended for_behind for_loop jump returned return_statement item items_once items block valued_case
-    default_case case_label case_item case_items_once case_items next_case cases switch_statement empty_statement effect_statement effect_behind labelled_statement named_statement statement_of branch_of statement_in branch_in
+    default_case case_label case_item case_items_once case_items next_case cases switch_statement empty_statement effect_statement effect_behind labelled_statement named_statement statement_of branch_of loop_of
+    unlooped_of inside_of too_deep statement_in branch_in behind_in inside_in
     function_rest function globals behind_declarator
     declared_at_file next_typedef more_typedefs typedefs next_stray strays declared_external external more_external unit word_of library_constant is_library_name
 calls = refl
@@ -301,11 +314,14 @@ unfolding tokens_of build cut piece_at add marks digits_at suffix_of body_of lit
     struct_braces constant_value constant enum_braces braces_of braces_in storage_word more_storage file_spec whole zone named_form literal_form sized_form null_form result_form old_form labelled_form told_form asked_form
     next_zone some_zones separated_form atom
     worded formula_indexed formula_dotted pointed formula_postfix_once formula_postfixes worded_postfix cast_behind cast_to_type cast_to_integer closed_postfix parenthesised behind_parenthesis formula_prefixed bare_prefix
-    prefix_of prefix formula_joined_once joined_more joined factor added_rest ranged behind_first added_parenthesis added sum_once sum_more zone_sum linked links_of links chain_behind chain_of implied implication_behind
-    implication_of chosen_behind choice_behind implication form_of forms form_clause full_clause next_clause more_clauses asserts behavior next_behavior more_behaviors behavior_name next_name some_names behavior_names cover_clause
-    full_cover next_cover more_covers behaviors_and_covers own_first behavior_first cover_first contract clauses annotations misplaced run_item behind_annotation annotated_item
+    prefix_of prefix formula_joined_once joined_more joined placed_name next_name some_names binder_type binders quantified added_rest ranged behind_first added_parenthesis added sum_once sum_more zone_sum linked links_of links chain_behind chain_of
+    implied implication_behind
+    implication_of chosen_behind choice_behind implication form_of forms form_clause full_clause next_clause more_clauses asserts assigns full_assigns looped loop_assigns loop_clause full_loop_clause
+    next_loop_clause more_loop_clauses loop_clauses next_own more_owns placed_own behavior next_behavior more_behaviors behavior_names cover_clause
+    full_cover next_cover more_covers behaviors_and_covers own_first behavior_first cover_first contract clauses annotations run_item behind_annotation annotated_item
     condition else_branch else_part selection while_loop do_loop for_first maybe_ended for_behind for_loop jump returned return_statement item items_once items block valued_case
-    default_case case_label case_item case_items_once case_items next_case cases switch_statement empty_statement effect_statement effect_behind labelled_statement named_statement statement_of branch_of statement_in branch_in
+    default_case case_label case_item case_items_once case_items next_case cases switch_statement empty_statement effect_statement effect_behind labelled_statement named_statement statement_of branch_of loop_of
+    unlooped_of inside_of too_deep statement_in branch_in behind_in inside_in
     function_rest function globals behind_declarator
     declared_at_file next_typedef more_typedefs typedefs next_stray strays declared_external external more_external unit word_of library_constant is_library_name
 refused_calls = refl
@@ -361,11 +377,14 @@ unfolding tokens_of build cut piece_at add marks digits_at suffix_of body_of lit
     struct_braces constant_value constant enum_braces braces_of braces_in storage_word more_storage file_spec whole zone named_form literal_form sized_form null_form result_form old_form labelled_form told_form asked_form
     next_zone some_zones separated_form atom
     worded formula_indexed formula_dotted pointed formula_postfix_once formula_postfixes worded_postfix cast_behind cast_to_type cast_to_integer closed_postfix parenthesised behind_parenthesis formula_prefixed bare_prefix
-    prefix_of prefix formula_joined_once joined_more joined factor added_rest ranged behind_first added_parenthesis added sum_once sum_more zone_sum linked links_of links chain_behind chain_of implied implication_behind
-    implication_of chosen_behind choice_behind implication form_of forms form_clause full_clause next_clause more_clauses asserts behavior next_behavior more_behaviors behavior_name next_name some_names behavior_names cover_clause
-    full_cover next_cover more_covers behaviors_and_covers own_first behavior_first cover_first contract clauses annotations misplaced run_item behind_annotation annotated_item
+    prefix_of prefix formula_joined_once joined_more joined placed_name next_name some_names binder_type binders quantified added_rest ranged behind_first added_parenthesis added sum_once sum_more zone_sum linked links_of links chain_behind chain_of
+    implied implication_behind
+    implication_of chosen_behind choice_behind implication form_of forms form_clause full_clause next_clause more_clauses asserts assigns full_assigns looped loop_assigns loop_clause full_loop_clause
+    next_loop_clause more_loop_clauses loop_clauses next_own more_owns placed_own behavior next_behavior more_behaviors behavior_names cover_clause
+    full_cover next_cover more_covers behaviors_and_covers own_first behavior_first cover_first contract clauses annotations run_item behind_annotation annotated_item
     condition else_branch else_part selection while_loop do_loop for_first maybe_ended for_behind for_loop jump returned return_statement item items_once items block valued_case
-    default_case case_label case_item case_items_once case_items next_case cases switch_statement empty_statement effect_statement effect_behind labelled_statement named_statement statement_of branch_of statement_in branch_in
+    default_case case_label case_item case_items_once case_items next_case cases switch_statement empty_statement effect_statement effect_behind labelled_statement named_statement statement_of branch_of loop_of
+    unlooped_of inside_of too_deep statement_in branch_in behind_in inside_in
     function_rest function globals behind_declarator
     declared_at_file next_typedef more_typedefs typedefs next_stray strays declared_external external more_external unit word_of library_constant is_library_name
 declarations = refl
@@ -403,11 +422,67 @@ unfolding tokens_of build cut piece_at add marks digits_at suffix_of body_of lit
     struct_braces constant_value constant enum_braces braces_of braces_in storage_word more_storage file_spec whole zone named_form literal_form sized_form null_form result_form old_form labelled_form told_form asked_form
     next_zone some_zones separated_form atom
     worded formula_indexed formula_dotted pointed formula_postfix_once formula_postfixes worded_postfix cast_behind cast_to_type cast_to_integer closed_postfix parenthesised behind_parenthesis formula_prefixed bare_prefix
-    prefix_of prefix formula_joined_once joined_more joined factor added_rest ranged behind_first added_parenthesis added sum_once sum_more zone_sum linked links_of links chain_behind chain_of implied implication_behind
-    implication_of chosen_behind choice_behind implication form_of forms form_clause full_clause next_clause more_clauses asserts behavior next_behavior more_behaviors behavior_name next_name some_names behavior_names cover_clause
-    full_cover next_cover more_covers behaviors_and_covers own_first behavior_first cover_first contract clauses annotations misplaced run_item behind_annotation annotated_item
+    prefix_of prefix formula_joined_once joined_more joined placed_name next_name some_names binder_type binders quantified added_rest ranged behind_first added_parenthesis added sum_once sum_more zone_sum linked links_of links chain_behind chain_of
+    implied implication_behind
+    implication_of chosen_behind choice_behind implication form_of forms form_clause full_clause next_clause more_clauses asserts assigns full_assigns looped loop_assigns loop_clause full_loop_clause
+    next_loop_clause more_loop_clauses loop_clauses next_own more_owns placed_own behavior next_behavior more_behaviors behavior_names cover_clause
+    full_cover next_cover more_covers behaviors_and_covers own_first behavior_first cover_first contract clauses annotations run_item behind_annotation annotated_item
     condition else_branch else_part selection while_loop do_loop for_first maybe_ended for_behind for_loop jump returned return_statement item items_once items block valued_case
-    default_case case_label case_item case_items_once case_items next_case cases switch_statement empty_statement effect_statement effect_behind labelled_statement named_statement statement_of branch_of statement_in branch_in
+    default_case case_label case_item case_items_once case_items next_case cases switch_statement empty_statement effect_statement effect_behind labelled_statement named_statement statement_of branch_of loop_of
+    unlooped_of inside_of too_deep statement_in branch_in behind_in inside_in
     function_rest function globals behind_declarator
     declared_at_file next_typedef more_typedefs typedefs next_stray strays declared_external external more_external unit word_of library_constant is_library_name
 misplaced_asserts = refl
+
+-- annotations of loops stand before loops, with one variant at most, and quantifiers have guards (E7, E8); the first fault in the text refuses
+loops_and_quantifiers :
+    outcome (codes "int main(void) { /*@ loop invariant 0 == 0; */ ; }") ∷
+    outcome (codes "int main(void) { /*@ loop variant 1; loop variant 2; */ while (0) ; }") ∷
+    outcome (codes "int main(void) { /*@ loop variant 1; */ do ; while (0); }") ∷
+    outcome (codes "int main(void) { if (0) /*@ loop assigns x, y[0 .. 3]; loop invariant 0 == 0; */ while (0) ; }") ∷
+    outcome (codes "int main(void) { /*@ loop invariant 0 == 0; */ /*@ assert 1 == 1; */ while (0) ; }") ∷
+    outcome (codes "int main(void) { /*@ loop foo 1; */ while (0) ; }") ∷
+    outcome (codes "int main(void) { /*@ assert 0 == 0; loop invariant 0 == 0; */ while (0) ; }") ∷
+    outcome (codes "int main(void) { /*@ loop invariant 0 == 0; */ }") ∷
+    outcome (codes "int main(void) { /*@ assert \\forall integer i; i == i; */ return 0; }") ∷
+    outcome (codes "int main(void) { /*@ assert 1 == 1 && \\exists integer i, j; 0 <= i < 3 && i == j; */ return 0; }") ∷
+    outcome (codes "/*@ assert \\exists integer i; 0 == 0; */ int main(void) { return 0; }") ∷
+    outcome (codes "int main(void) { /*@ assert \\forall integer i; i == i; */ if (0) /*@ assert 0 == 0; */ ; return 0; }") ∷
+    outcome (codes "int main(void) { /*@ assert (\\forall const int i; i == i) && 0 == 0; */ return 0; }") ∷ []
+    ≡
+    refusal 7 (place 1 22 21) (codes "loop") ∷
+    refusal 7 (place 1 38 37) (codes "loop") ∷
+    refusal 7 (place 1 22 21) (codes "loop") ∷
+    Ok (Exits (pos 0), []) ∷
+    refusal 7 (place 1 22 21) (codes "loop") ∷
+    refusal 4 (place 1 27 26) (codes "foo") ∷
+    refusal 4 (place 1 37 36) (codes "loop") ∷
+    refusal 4 (place 1 48 47) (codes "}") ∷
+    refusal 8 (place 1 29 28) (codes "\\forall") ∷
+    refusal 8 (place 1 39 38) (codes "\\exists") ∷
+    refusal 7 (place 1 5 4) (codes "assert") ∷
+    refusal 8 (place 1 29 28) (codes "\\forall") ∷
+    refusal 4 (place 1 38 37) (codes "const") ∷ []
+unfolding tokens_of build cut piece_at add marks digits_at suffix_of body_of literal_of escape_at unit_at letter_of is_file ends_marker headers include_fault directive_fault outside_in_c outside_in_annotations backslash_names
+    is_outside word_at number_at letter_at string_at annotation_marks c_mark_at mark_at comment_at open_block open_line other_at directive_at integer_word integer_words typedef_name struct_tag enum_tag untagged_base base
+    consts type_words type_behind more_consts star next_star star_words written_length length_or_none bracket next_bracket brackets type_name closed indexed dotted arrowed postfix_once postfixes postfix_rest literal
+    literal_first cast_rest sized_type paren_rest behind_paren prefixed sized operand_but_name operand_of operand joined_once behind_operand choice_rest conditional_rest expression_of expression_at expression next_argument
+    arguments call_rest behind_variable assigned bumped behind_unary behind_form at_level next_part with_commas bump_first full_expression placed_rest placed_expression nameless_expression expression_behind full_placed_expression
+    full_nameless_expression full_expression_behind
+    full_expression_at ended maybe_comma
+    next_item item_once more_items listed lengths dtor full_dtor maybe_name abstract_dtor full_abstract_dtor item_of_list list_of list_in initialiser initialised declared_once next_declared more_declared declared_list
+    declaration parameter_rest void_parameter parameter_behind parameter next_parameter more_parameters first_parameter parameters next_member members_of behind_tag behind_word tagged_type braced member more_members
+    struct_braces constant_value constant enum_braces braces_of braces_in storage_word more_storage file_spec whole zone named_form literal_form sized_form null_form result_form old_form labelled_form told_form asked_form
+    next_zone some_zones separated_form atom
+    worded formula_indexed formula_dotted pointed formula_postfix_once formula_postfixes worded_postfix cast_behind cast_to_type cast_to_integer closed_postfix parenthesised behind_parenthesis formula_prefixed bare_prefix
+    prefix_of prefix formula_joined_once joined_more joined placed_name next_name some_names binder_type binders quantified added_rest ranged behind_first added_parenthesis added sum_once sum_more zone_sum linked links_of links chain_behind chain_of
+    implied implication_behind
+    implication_of chosen_behind choice_behind implication form_of forms form_clause full_clause next_clause more_clauses asserts assigns full_assigns looped loop_assigns loop_clause full_loop_clause
+    next_loop_clause more_loop_clauses loop_clauses next_own more_owns placed_own behavior next_behavior more_behaviors behavior_names cover_clause
+    full_cover next_cover more_covers behaviors_and_covers own_first behavior_first cover_first contract clauses annotations run_item behind_annotation annotated_item
+    condition else_branch else_part selection while_loop do_loop for_first maybe_ended for_behind for_loop jump returned return_statement item items_once items block valued_case
+    default_case case_label case_item case_items_once case_items next_case cases switch_statement empty_statement effect_statement effect_behind labelled_statement named_statement statement_of branch_of loop_of
+    unlooped_of inside_of too_deep statement_in branch_in behind_in inside_in
+    function_rest function globals behind_declarator
+    declared_at_file next_typedef more_typedefs typedefs next_stray strays declared_external external more_external unit word_of library_constant is_library_name
+loops_and_quantifiers = refl

@@ -5,7 +5,7 @@ use Rattle.c_syntax.specs.Programs.{Function, TranslationUnit}
 use Rattle.c_syntax.specs.Tokens.{PlainTokens}
 use Rattle.c_model.specs.CTokens.{tokens_of}
 use Rattle.c_model.specs.Checked.{Good}
-use Rattle.c_model.specs.Formed.{AreReadAsserts}
+use Rattle.c_model.specs.Formed.{AreReadAsserts, AreReadLoopClauses}
 use Rattle.c_model.specs.FullExpressions.{EachExpression}
 use Rattle.c_model.specs.JudgedStates.{judged, judged_whole}
 use Rattle.c_model.specs.LetterValues.{LettersFit}
@@ -27,7 +27,7 @@ TreesAreRead = (text : List ℕ) (ts : PlainTokens) (tree : TranslationUnit) →
 -- and what it is typed as has its asserts where the laws of their typing ask for them
 abbrev pub TypedTreesKeepAsserts : Type 0
 TypedTreesKeepAsserts = (tree typed : TranslationUnit) → ReadTree tree → typed_unit tree ≡ Good typed
-    → FunctionsRead AreReadAsserts (functions_among (items_of_file typed))
+    → FunctionsRead AreReadAsserts AreReadLoopClauses (functions_among (items_of_file typed))
 
 -- ---- programs
 

@@ -66,8 +66,9 @@ fn ranged(alloc: Global, tree: Parsed) -> Result<Ranged, FrontFault>
 }
 
 /// Reads a C text with annotations: its typed program, or its refusal, with code 1, 2, 3 or 11 for its tokens, 4 or 11 for its
-/// grammar, 7 for an annotation that stands where none of its kind may, 5 for a name, 6 or 11 for a type, 12 for want of room for globals
-/// and literals, 13 for want of `int main(void)`, and 10 for a term of an annotation that has no range.
+/// grammar, 7 for an annotation that stands where none of its kind may and for a second variant of a loop, 8 for a quantifier without a
+/// guard, 5 for a name, 6 or 11 for a type, 12 for want of room for globals and literals, 13 for want of `int main(void)`, 9 for a label of
+/// an annotation, and 10 for a term of an annotation that has no range.
 pub fn read_text(alloc: Global, text: &[u8]) -> Result<Program, FrontFault>
     requires { length text.now < 4294967295 }
     ensures accepted { IfOk result (λ p. AcceptedText text.now (plain_program p)) }

@@ -3,7 +3,7 @@
 use crate::monitored::constant;
 use crate::reading::tokens_of;
 use crate::same::{made, same_bytes, same_number, same_numbers};
-use acsl_parser::{annotations, read_annot};
+use acsl_parser::{ReadAnnotation, annotations, read_annot};
 use annot_typing::{ClauseSight, type_clauses};
 use behavior_split::split;
 use c_expr_parser::vocabulary::vocabulary;
@@ -23,13 +23,22 @@ use mon_syntax::MonType;
 use std::process::Abort;
 use term_guards::guard;
 
-/// Compares how many asserts an annotation has, with the number of the next one, and the tokens that are left.
+/// How many clauses an annotation has, those of a contract aside.
+fn clause_count(read: &ReadAnnotation) -> i128 {
+    match read {
+        ReadAnnotation::Asserts(clauses) => clauses.len() as i128,
+        ReadAnnotation::Loop(all) => all.clauses.len() as i128,
+        ReadAnnotation::Contract(_) => 0,
+    }
+}
+
+/// Compares how many clauses an annotation has, with the number of the next one, and the tokens that are left.
 fn reads(rt: &(impl Abort + AllocGlobal), text: &str, wanted: (i128, i128), left: u128) {
     let tokens = tokens_of(rt, text);
     let words = made(rt, vocabulary(rt.alloc(), &tokens.names));
     match annotations(rt.alloc(), &words, 1, &tokens.list) {
         Ok((read, next, rest)) => {
-            let found = (read.0.len() as i128, i128::from(next));
+            let found = (clause_count(&read), i128::from(next));
             let behind = rest.len() as u128;
             drop(read);
             same_numbers(rt, found, wanted);
@@ -55,6 +64,19 @@ fn asserts_are_read(rt: HostRuntime) {
         "/*@ assert 0 <= 1 + 2 * 3 && (7 / 2 == 3 ==> \\true); assert -7 % 2 == -1; */ return 0;";
     reads(&rt, text, (2, 3), 3);
     breaks(&rt, "/*@ assert 1 < 2 > 3; */", 4);
+}
+
+#[test]
+fn clauses_of_loops_are_read(rt: HostRuntime) {
+    let text =
+        "/*@ loop invariant \\forall int i; 0 <= i < 3 ==> 0 <= i; loop assigns x, y; loop variant 3; */ while";
+    reads(&rt, text, (2, 3), 1);
+    breaks(
+        &rt,
+        "/*@ loop invariant (\\forall const int i; i == i); */",
+        10,
+    );
+    breaks(&rt, "/*@ assert 0 == 0; loop variant 1; */", 5);
 }
 
 /// Compares how many clauses the annotation has that begins the tokens, and the place after it, where these are names of types.
@@ -96,8 +118,8 @@ fn splits(rt: &(impl Abort + AllocGlobal), text: &str, wanted: (i128, i128)) {
     let tokens = tokens_of(rt, text);
     let words = made(rt, vocabulary(rt.alloc(), &tokens.names));
     match annotations(rt.alloc(), &words, 1, &tokens.list) {
-        Ok((read, _, _)) => match &read.1 {
-            Some(contract) => {
+        Ok((read, _, _)) => match &read {
+            ReadAnnotation::Contract(contract) => {
                 let checks = made(rt, split(rt.alloc(), contract));
                 same_numbers(
                     rt,
@@ -105,7 +127,7 @@ fn splits(rt: &(impl Abort + AllocGlobal), text: &str, wanted: (i128, i128)) {
                     wanted,
                 );
             }
-            None => panic!(rt; "it is no contract"),
+            _ => panic!(rt; "it is no contract"),
         },
         Err(_) => panic!(rt; "it isn't read"),
     }
@@ -123,7 +145,11 @@ fn read(rt: &(impl Abort + AllocGlobal), text: &str) -> (Vec<Annot>, Sight) {
     let Tokens { list, names, .. } = tokens_of(rt, text);
     let words = made(rt, vocabulary(rt.alloc(), &names));
     match annotations(rt.alloc(), &words, 1, &list) {
-        Ok((read, _, _)) => (read.0, sight_of(rt, names)),
+        Ok((read, _, _)) => match read {
+            ReadAnnotation::Asserts(asserts) => (asserts, sight_of(rt, names)),
+            ReadAnnotation::Contract(_contract) => panic!(rt; "it is a contract"),
+            ReadAnnotation::Loop(_all) => panic!(rt; "it has clauses of a loop"),
+        },
         Err(_) => panic!(rt; "it isn't read"),
     }
 }
