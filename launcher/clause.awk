@@ -1,6 +1,11 @@
 # Shows the clause with the number `wanted` of a text, with its lines and the function that it stands in or whose contract has it, if its line is the one that was told;
-# or says, where 0 is wanted, that the text has no annotation. Clauses are counted in the order of the text, and each ends at a `;`. The `behavior NAME:` in front of some
-# is none.
+# or says, where 0 is wanted, that the text has no annotation. Clauses are counted in the order of the text, and each ends at a `;` that doesn't end the binders of a
+# quantifier. Those with `assigns` have no number, and the `behavior NAME:` in front of some is none.
+
+BEGIN {
+    binders = "\\\\(forall|exists)[ \t\r\f\v@][A-Za-z0-9_, \t\r\f\v@]*;$"
+    assigns = "^[ \t\r\f\v@]*(loop[ \t\r\f\v@]+)?assigns([^A-Za-z0-9_]|$)"
+}
 
 function piece(kind, text) {
     if (kind == "open" || kind == "close") clause = due = behavior = ""
@@ -15,7 +20,9 @@ function read_note(kind, text,    end) {
     while (kind == "note" && (end = index(text, ";")) > 0) {
         add(substr(text, 1, end))
         text = substr(text, end + 1)
-        if (number == wanted + 0 && clause != "") finish()
+        if (clause ~ binders) continue
+        if (clause ~ assigns) number--
+        else if (number == wanted + 0 && clause != "") finish()
         clause = ""
     }
     add(text)
@@ -31,7 +38,7 @@ function add(text) {
         lines = 0
         if (text ~ /^(complete|disjoint)([^A-Za-z0-9_]|$)/) behavior = ""
     }
-    clause = clause text
+    clause = clause " " text
     while (lines < FNR - first + 1) part[++lines] = ""
     part[lines] = part[lines] text
 }
