@@ -229,6 +229,27 @@ CONSTRUCTS = {
     "behaviors, and as many complete": covered(" behavior b{0}:\n", " complete behaviors;\n"),
     "behaviors, each complete": covered(" behavior b{0}:\n", " complete behaviors b{0};\n"),
     "behaviors that are named": contracted(" complete behaviors " + ", ".join(["b"] * 190) + ";\n", first=" behavior b:"),
+    # ---- quantifiers
+    "quantifiers": inside("/*@ assert \\forall integer i; 0 <= i < 3 ==> i < 3; */\n"),
+    "quantifiers over an array": inside("/*@ assert \\forall integer i; 0 <= i < 3 ==> a[i] <= a[i + 1]; */\n"),
+    "quantifiers of one assert": inside("/*@ assert " + long_expression("(\\forall integer i; 0 <= i < 3 ==> i < 3)", "&&", 380) + "; */\n"),
+    "quantifiers in quantifiers": inside("/*@ assert " + nested("\\forall integer i; 0 <= i < 1 ==> ", "\\true", "", 38).strip() + "; */\n"),
+    "binders": inside("/*@ assert \\forall integer " + ", ".join(f"i{n}" for n in range(90)) + "; 0 <= " + " <= ".join(f"i{n}" for n in range(90)) + " <= 0 ==> \\true; */\n"),
+    "guards of many chains": inside(
+        "/*@ assert \\forall integer " + ", ".join(f"i{n}" for n in range(40)) + "; " + " && ".join(f"0 <= i{n} < 1" for n in range(40)) + " ==> \\true; */\n"
+    ),
+    "hypotheses": inside("/*@ assert \\forall integer i; 0 <= i < 3 && " + long_expression("i >= 0", "&&", 370) + " ==> \\true; */\n"),
+    "binders of a type of C": inside("/*@ assert \\exists unsigned char i; -3 <= i < 300 && i == 0; */\n"),
+    # ---- annotations of loops
+    "invariants": inside("/*@ loop invariant x == 1; */ while (0) ;\n"),
+    "invariants and variants": inside("/*@ loop invariant x == 1; loop variant x; */ while (0) ;\n"),
+    "invariants of one loop": (BODY + "/*@", " loop invariant x == 1;\n", "*/ while (0) ;\n" + END),
+    "invariants of a for": inside("/*@ loop invariant i <= 1; loop variant 1 - i; */ for (int i = 0; i < 1; i++) ;\n"),
+    "invariants of loops in loops": inside(nested("/*@ loop invariant x <= 1; */ while (x) ", "x = 0;", "", 60) + "x = 1;\n"),
+    "loop assigns": inside("/*@ loop assigns x, y; */ while (0) ;\n"),
+    "loop assigns of one loop": (BODY + "/*@", " loop assigns x;\n", "*/ while (0) ;\n" + END),
+    "assigns": contracted(" assigns n;\n"),
+    "a list of assigns": inside("/*@ loop assigns " + ", ".join(["x"] * 190) + "; */ while (0) ;\n"),
     # ---- labels
     "labels": inside("L{0}: ;\n"),
     "terms at labels": inside("L{0}: ; /*@ assert \\at(x, L{0}) == 1; */\n"),
